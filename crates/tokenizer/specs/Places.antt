@@ -1,0 +1,24 @@
+-- The lines of a sheet with the points where they start.
+use Prim.Native.Nat.{ℕ}
+use mathlib.Core.List.{List, [], _∷_}
+use Rattle.tokenizer.specs.declared.event.Point.{Point}
+use Rattle.tokenizer.specs.Points.{start, past, nextLine}
+use Rattle.tokenizer.specs.Lines.{Line, lines}
+
+-- a line and the point where it starts
+pub record Placed : Type 0 where
+  pub at : Point
+  pub line : Line
+
+-- where a line's bytes end
+abbrev pub endOf : Placed → Point
+endOf l = past (l .at) (l .line .body)
+
+-- lines one after the other from a point on
+unfoldable pub placed : Point → List Line → List Placed
+placed p [] = []
+placed p (l ∷ ls) = record { at = p; line = l } ∷ placed (nextLine (past p (l .body)) (l .end)) ls
+
+-- the lines of a sheet
+abbrev pub placedLines : List ℕ → List Placed
+placedLines s = placed start (lines s)

@@ -1,0 +1,8 @@
+// The byte feed of markdown 1.0.0's tokenizer: kinds of bytes, points, events, units, whitespace runs and lines. All by value.
+
+pub mod event;
+pub mod feed;
+pub mod kinds;
+pub mod lines;
+pub mod moves;
+pub mod partial_space_or_tab;

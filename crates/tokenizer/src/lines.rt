@@ -1,0 +1,121 @@
+// Lines: where they start, where they end, and their numbers.
+use crate::event::Point;
+use crate::moves::ahead;
+use crate::moves::space_end;
+ghost use mathlib.Core.Path.{_≡_};
+ghost use Prim.Native.Nat.{_≤_, _+_};
+ghost use lib.ListN.{length, drop};
+ghost use Rattle.tokenizer.specs.Bytes.{kindOf};
+ghost use Rattle.tokenizer.specs.Lines.{startsLF, lineBody, endAt, endsLine, startsLine, lineNumber, blank};
+ghost use Rattle.tokenizer.specs.Moves.{Inside, restOf, furtherOf};
+
+// Where the next line starts, or that there is none.
+pub enum Further {
+    More(Point),
+    Last,
+}
+
+// Whether a line feed stands at a place.
+pub fn starts_lf(s: &[u8], at: usize) -> bool
+    ensures { λ r. ⌜ r ≡ startsLF (drop at (now (s .entry))) ⌝ }
+{
+    if at < s.len() {
+        return s[at] == 10;
+    }
+    false
+}
+
+// The length of the line end at a place, 0 at the sheet's end.
+pub fn line_end(s: &[u8], at: usize) -> u32
+    ensures { λ r. ⌜ r ≡ endAt (drop at (now (s .entry))) ⌝ }
+{
+    if at < s.len() {
+        if s[at] == 13 {
+            if starts_lf(s, at + 1) {
+                return 2;
+            }
+        }
+        return 1;
+    }
+    0
+}
+
+// Where the bytes of the line end that a place lies in.
+pub fn line_stop(s: &[u8], at: usize) -> usize
+    ensures { λ r. ⌜ r ≡ at + length (lineBody (drop at (now (s .entry)))) ⌝ }
+{
+    let mut i = at;
+    while ahead(s, i) != 2 {
+        i += 1;
+    }
+    i
+}
+
+// The line after the one that a point is in.
+pub fn line_after(s: &[u8], p: Point) -> Further
+    requires { ⌜ Inside (now s) p ⌝ }
+    ensures { λ r. ⌜ r ≡ furtherOf (now (s .entry)) p ⌝ }
+{
+    let e = line_stop(s, p.index as usize);
+    let n = line_end(s, e);
+    if n == 0 {
+        return Further::Last;
+    }
+    Further::More(Point {
+        line: p.line + 1,
+        column: 1,
+        index: e as u32 + n,
+        vs: 0,
+    })
+}
+
+// Whether the line has nothing but spaces and tabs from a point on.
+pub fn is_blank(s: &[u8], p: Point) -> bool
+    requires { ⌜ Inside (now s) p ⌝ }
+    ensures { λ r. ⌜ r ≡ blank kindOf (restOf (now (s .entry)) p) ⌝ }
+{
+    let q = space_end(s, p);
+    ahead(s, q.index as usize) == 2
+}
+
+// Whether a line end is complete with the byte b, where the sheet goes on at a place.
+pub fn ends_line(s: &[u8], b: u8, at: usize) -> bool
+    ensures { λ r. ⌜ r ≡ endsLine b (drop at (now (s .entry))) ⌝ }
+{
+    if b == 10 {
+        return true;
+    }
+    if b == 13 {
+        return !starts_lf(s, at);
+    }
+    false
+}
+
+// Whether a line starts at an offset.
+pub fn starts_line(s: &[u8], at: usize) -> bool
+    ensures { λ r. ⌜ r ≡ startsLine (now (s .entry)) at ⌝ }
+{
+    if at == 0 {
+        return true;
+    }
+    if s.len() < at {
+        return false;
+    }
+    ends_line(s, s[at - 1], at)
+}
+
+// The number of the line that an offset lies in.
+pub fn line_number(s: &[u8], at: usize) -> u32
+    requires { ⌜ at ≤ length (now s) × at ≤ 65536 ⌝ }
+    ensures { λ r. ⌜ r ≡ lineNumber (now (s .entry)) at ⌝ }
+{
+    let mut i = 0;
+    let mut n = 1;
+    while i < at {
+        if ends_line(s, s[i], i + 1) {
+            n += 1;
+        }
+        i += 1;
+    }
+    n
+}

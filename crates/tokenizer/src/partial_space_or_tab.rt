@@ -1,0 +1,50 @@
+// Runs of spaces and tabs with a least and a greatest number of units.
+use crate::feed::Byte;
+use crate::feed::Feed;
+use crate::kinds::kind;
+ghost use mathlib.Core.Path.{_≡_};
+ghost use Rattle.tokenizer.specs.Spaces.{isSpaceByte, spaceAhead, attemptOf, Reading};
+
+// Whether an attempt was right, with the feed behind it, or with the copy that was kept.
+pub enum Attempt {
+    Ok(Feed),
+    Nok(Feed),
+}
+
+// Whether a byte is a space or a tab.
+pub fn is_space(b: Byte) -> bool
+    ensures { λ r. ⌜ r ≡ isSpaceByte b ⌝ }
+{
+    match b {
+        Byte::At(x) => kind(x) == 1,
+        Byte::End => false,
+    }
+}
+
+// Whether one more unit of whitespace is to be passed.
+pub fn space_ahead(f: Feed, left: usize) -> bool
+    ensures { λ r. ⌜ r ≡ spaceAhead f left ⌝ }
+{
+    if left == 0 {
+        return false;
+    }
+    let b = f.current;
+    is_space(b)
+}
+
+// At least `min` and at most `max` units of whitespace.
+pub fn space_or_tab_min_max(s: &[u8], f: Feed, min: usize, max: usize) -> Attempt
+    requires { ⌜ Reading (now s) f ⌝ }
+    ensures { λ r. ⌜ r ≡ attemptOf (now (s .entry)) min max (f .point) ⌝ }
+{
+    let mut q = f;
+    let mut left = max;
+    while space_ahead(q, left) {
+        q = q.consume(s);
+        left -= 1;
+    }
+    if max - left < min {
+        return Attempt::Nok(f);
+    }
+    Attempt::Ok(q)
+}

@@ -1,0 +1,148 @@
+//! The six calls of document 01, each with its questions in order. A refusal is `Err` of its number.
+
+use crate::drive::{self, Flags};
+use crate::event::Event;
+use crate::lines::{lines, Line};
+use crate::questions::{self, Edit};
+use crate::record::{self, Record};
+use crate::run;
+
+/// An accepted head.
+pub struct Head {
+    pub events: Vec<Record>,
+    pub end: u64,
+    pub cells: usize,
+}
+
+/// An accepted row.
+pub struct Row {
+    pub events: Vec<Record>,
+    pub end: u64,
+}
+
+/// An accepted sheet.
+pub struct Sheet {
+    pub tables: usize,
+    pub raw: Vec<Record>,
+    pub results: Vec<Record>,
+    pub alignments: Vec<u64>,
+}
+
+/// `Ok` where a question gets a yes, its number where it gets a no.
+fn ask(yes: bool, number: u8) -> Result<(), u8> {
+    yes.then_some(()).ok_or(number)
+}
+
+/// The index of the last event: the first byte of the last line's line end, or the sheet's length.
+fn end_of(events: &[Record]) -> u64 {
+    events.last().expect("a head or row has events").index
+}
+
+/// Head: questions 1, 2, then 3 to 7 by the crate, then 9.
+pub fn head(sheet: &[u8], offset: u64, code_indented: bool, flags: Flags, slots: u64) -> Result<Head, u8> {
+    ask(questions::is_short_enough(sheet), 1)?;
+    let all = lines(sheet);
+    let from = questions::lines_from(&all, offset).ok_or(2)?;
+    let driven = drive::head(sheet, from, code_indented, flags)?;
+    ask(questions::has_slots(slots, driven.events.len()), 9)?;
+    let events = record::from_events(&driven.events);
+    Ok(Head { end: end_of(&events), events, cells: driven.cells })
+}
+
+/// Row: questions 1, 2, then 5 by the crate, then 8 and 9. A blank line is not given to the crate unless it is lazy.
+pub fn row(sheet: &[u8], offset: u64, lazy: bool, slots: u64) -> Result<Row, u8> {
+    ask(questions::is_short_enough(sheet), 1)?;
+    let all = lines(sheet);
+    let line = questions::lines_from(&all, offset).ok_or(2)?[0];
+    ask(lazy || questions::is_not_blank(sheet, line), 8)?;
+    let events = record::from_events(&drive::row(sheet, line, lazy)?);
+    ask(questions::has_slots(slots, events.len()), 9)?;
+    Ok(Row { end: end_of(&events), events })
+}
+
+/// Resolve: questions 10 and 12.
+pub fn resolve(list: &[Record], slots: u64) -> Result<Vec<Record>, u8> {
+    ask(questions::is_raw_tables(list), 10)?;
+    let results = run::resolve(list);
+    ask(questions::has_slots(slots, results.len()), 12)?;
+    Ok(results)
+}
+
+/// Edit: questions 11 and 12.
+pub fn edit(list: &[Record], edits: &[Edit], pool: &[Record], slots: u64) -> Result<Vec<Record>, u8> {
+    ask(questions::edits_fit(list.len(), pool.len(), edits), 11)?;
+    let results = run::edit(list, edits, pool);
+    ask(questions::has_slots(slots, results.len()), 12)?;
+    Ok(results)
+}
+
+/// Alignment: questions 13 and 14.
+pub fn align(list: &[Record], index: u64, slots: u64) -> Result<Vec<u64>, u8> {
+    ask(questions::has_closed_values(list, index), 13)?;
+    let alignments = run::align(list, index as usize);
+    ask(questions::has_slots(slots, alignments.len()), 14)?;
+    Ok(alignments)
+}
+
+/// The slots lent to the sheet call.
+pub struct SheetSlots {
+    pub raw: u64,
+    pub results: u64,
+    pub alignments: u64,
+}
+
+/// Sheet: question 1, then 9, 12 and 14, each once for the whole sheet.
+pub fn sheet(sheet: &[u8], code_indented: bool, slots: &SheetSlots) -> Result<Sheet, u8> {
+    ask(questions::is_short_enough(sheet), 1)?;
+    let tables = raw_tables(sheet, code_indented);
+    let raw: Vec<Event> = tables.iter().flatten().cloned().collect();
+    ask(questions::has_slots(slots.raw, raw.len()), 9)?;
+    let results = run::resolve_events(raw.clone());
+    ask(questions::has_slots(slots.results, results.len()), 12)?;
+    let alignments = run::all_alignments(&results);
+    ask(questions::has_slots(slots.alignments, alignments.len()), 14)?;
+    let (raw, results) = (record::from_events(&raw), record::from_events(&results));
+    Ok(Sheet { tables: tables.len(), raw, results, alignments })
+}
+
+/// The walk of 01: the raw events of each table, in sheet order.
+pub fn raw_tables(sheet: &[u8], code_indented: bool) -> Vec<Vec<Event>> {
+    let all = lines(sheet);
+    let blanks = next_blanks(sheet, &all);
+    let mut tables = vec![];
+    let mut place = 0;
+    while place < all.len() {
+        // The rows of a table whose head is here: the lines behind the delimiter row up to a blank one.
+        let rows = blanks.get(place + 2).map_or(0, |blank| blank - (place + 2));
+        let tried =
+            (blanks[place] > place).then(|| drive::table(sheet, &all[place..], code_indented, Flags::default(), rows));
+        if let Some(Ok(driven)) = tried {
+            tables.push(driven.events);
+            place += 2 + rows;
+        } else {
+            place += 1;
+        }
+    }
+    tables
+}
+
+/// For each line, the place of the first blank line from there on, or the number of lines.
+fn next_blanks(sheet: &[u8], lines: &[Line]) -> Vec<usize> {
+    let mut blanks = vec![lines.len(); lines.len()];
+    let mut next = lines.len();
+    for place in (0..lines.len()).rev() {
+        if lines[place].is_blank(sheet) {
+            next = place;
+        }
+        blanks[place] = next;
+    }
+    blanks
+}
+
+/// Whether the crate resolves all tables of a sheet in one list as it does each alone.
+pub fn resolves_apart(sheet: &[u8], code_indented: bool) -> bool {
+    let tables = raw_tables(sheet, code_indented);
+    let together = run::resolve_events(tables.iter().flatten().cloned().collect());
+    let apart: Vec<Event> = tables.into_iter().flat_map(run::resolve_events).collect();
+    record::from_events(&together) == record::from_events(&apart)
+}

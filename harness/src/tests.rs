@@ -1,0 +1,139 @@
+//! Tests of the harness itself: the example of 01, its table of readings, and the order of refusals.
+
+use crate::calls::{self, SheetSlots};
+use crate::drive::Flags;
+use crate::kept::random::Random;
+use crate::kept::{self, sheet_cases};
+use crate::print;
+use crate::protocol::answer;
+use std::path::Path;
+
+const MANY: SheetSlots = SheetSlots { raw: 1024, results: 1024, alignments: 1024 };
+
+/// A head at offset 0: its refusal, or the alignments of the sheet.
+fn reading(text: &str, code_indented: bool) -> Result<Vec<u64>, u8> {
+    calls::head(text.as_bytes(), 0, code_indented, Flags::default(), 1024)?;
+    Ok(calls::sheet(text.as_bytes(), code_indented, &MANY)?.alignments)
+}
+
+#[test]
+fn example_sheet() {
+    let sheet = calls::sheet(b"a|b\n:-|-\nc", true, &MANY).ok().unwrap();
+    assert_eq!((sheet.tables, sheet.raw.len(), sheet.results.len()), (1, 28, 52));
+    assert_eq!(sheet.alignments, [2, 1]);
+}
+
+#[test]
+fn known_readings() {
+    let readings: [(&str, bool, Result<Vec<u64>, u8>); 14] = [
+        ("|\n|-|", true, Err(4)),
+        ("||\n|-|", true, Ok(vec![1])),
+        ("a\n-", true, Err(6)),
+        ("a\n:-", true, Ok(vec![2])),
+        ("a\n-|", true, Ok(vec![1])),
+        ("a|b\n:-", true, Err(7)),
+        ("a|b\n-|-:", true, Ok(vec![1, 3])),
+        ("a\n:", true, Err(6)),
+        ("a\n- -", true, Err(6)),
+        ("   a\n:-", true, Ok(vec![2])),
+        ("    a\n:-", true, Err(3)),
+        ("    a\n:-", false, Ok(vec![2])),
+        ("a\\|b\n:-:", true, Ok(vec![4])),
+        ("a\\\\|b\n-|-", true, Ok(vec![1, 1])),
+    ];
+    for (text, code_indented, expected) in readings {
+        assert_eq!(reading(text, code_indented), expected, "{text:?}");
+    }
+}
+
+/// The answer to a request whose last word is a text.
+fn asked(request: &str, text: &str) -> String {
+    answer(&format!("{request} {}", print::bytes(text.as_bytes())))
+}
+
+#[test]
+fn head_refusals_in_order() {
+    assert_eq!(asked("head 1 1 1 1 0", "    a"), "2 0 0 0 | +0");
+    assert_eq!(asked("head 0 1 1 1 0", "    a"), "3 0 0 0 | +0");
+    assert_eq!(asked("head 0 1 1 1 0", "a"), "4 0 0 0 | +0");
+    assert_eq!(asked("head 0 1 1 0 0", "a\n"), "5 0 0 0 | +0");
+    assert_eq!(asked("head 0 1 0 1 0", "a\n-"), "5 0 0 0 | +0");
+    assert_eq!(asked("head 0 1 0 0 0", "a\n"), "6 0 0 0 | +0");
+    assert_eq!(asked("head 0 1 0 0 0", "a|b\n|"), "6 0 0 0 | +0");
+    assert_eq!(asked("head 0 1 0 0 0", "a|b\n-|"), "7 0 0 0 | +0");
+    assert_eq!(asked("head 0 1 0 0 13", "a\n:-"), "9 0 0 0 | +13");
+    assert!(asked("head 0 1 0 0 14", "a\n:-").starts_with("0 14 4 1 | 1,6,"));
+}
+
+#[test]
+fn row_refusals_in_order() {
+    assert_eq!(asked("row 2 1 0", "a\r\nb"), "2 0 0 | +0");
+    assert_eq!(asked("row 0 1 0", " "), "5 0 0 | +0");
+    assert_eq!(asked("row 0 0 0", " \t"), "8 0 0 | +0");
+    assert_eq!(asked("row 0 0 3", "a"), "9 0 0 | +3");
+    assert!(asked("row 0 0 4", "a").starts_with("0 4 1 | 1,7,"));
+}
+
+#[test]
+fn sheet_refusals_in_order() {
+    let text = "a\n:-";
+    assert_eq!(asked("sheet 1 13 0 0", text), "9 0 0 0 0 | +13 | +0 | +0");
+    assert_eq!(asked("sheet 1 14 23 0", text), "12 0 0 0 0 | +14 | +23 | +0");
+    assert_eq!(asked("sheet 1 14 24 0", text), "14 0 0 0 0 | +14 | +24 | +0");
+    assert_eq!(asked("sheet 1 0 0 0", &"a".repeat(65_537)), "1 0 0 0 0 | +0 | +0 | +0");
+    assert_eq!(asked("sheet 1 0 0 0", &"a".repeat(65_536)), "0 0 0 0 0 | +0 | +0 | +0");
+}
+
+#[test]
+fn list_refusals_in_order() {
+    let list = "1,1,0,0,0,0,0";
+    assert_eq!(answer(&format!("resolve 0 {list}")), "10 0 | +0");
+    assert_eq!(answer("resolve 0"), "0 0 | +0");
+    assert_eq!(answer(&format!("edit 0 1 1 0 1 1 0 0 0 {list}")), "11 0 | +0 | 1 1 0 0 0");
+    assert_eq!(answer(&format!("edit 0 1 1 0 9 0 7 0 0 {list}")), "12 0 | +0 | 9 0 7 0 0");
+    assert_eq!(answer(&format!("edit 1 1 1 0 9 0 7 0 0 {list}")), format!("0 1 | {list} +0 | 9 0 7 0 0"));
+    assert_eq!(answer(&format!("align 0 0 {list}")), "13 0 | +0");
+    let table = "1,4,0,0,0,0,0 1,11,0,0,0,0,0 1,14,0,0,0,0,0 1,12,0,0,0,0,0 2,14,0,0,0,0,0 2,11,0,0,0,0,0";
+    assert_eq!(answer(&format!("align 0 0 {table}")), "14 0 | +0");
+    assert_eq!(answer(&format!("align 0 2 {table}")), "0 1 | 4 +1");
+}
+
+#[test]
+fn unreadable_requests() {
+    for request in [
+        "",
+        "head",
+        "head 0 1 0 0 3",
+        "head 0 2 0 0 3 61",
+        "head 0 1 0 0 3 6",
+        "head 0 1 0 0 3 6A",
+        "row -1 0 3 61",
+        "resolve 1 1,2,3",
+        "resolve 1 ",
+        "sheet 1 1 1 1 61 ",
+        "edit 1 1 0 0 1 1",
+        "align 18446744073709551616 0",
+    ] {
+        assert_eq!(answer(request), "?", "{request}");
+    }
+}
+
+#[test]
+fn tables_resolve_together_as_alone() {
+    let mut random = Random::new(9);
+    for _ in 0..2_000 {
+        let sheet = sheet_cases::several(&mut random);
+        assert!(calls::resolves_apart(&sheet, random.percent(50)), "{sheet:?}");
+    }
+}
+
+#[test]
+fn kept_answers_are_those_made_now() {
+    let folder = Path::new(env!("CARGO_MANIFEST_DIR")).join("../vectors");
+    for kept in kept::all() {
+        for (lines, ending) in [(&kept.requests, "requests"), (&kept.answers, "answers")] {
+            let file = std::fs::read_to_string(folder.join(format!("{}.{ending}", kept.name))).unwrap();
+            assert!(file.lines().eq(lines.iter().map(String::as_str)), "{}.{ending}", kept.name);
+        }
+    }
+}
