@@ -1,1 +1,51 @@
-// The row machine.
+// The row machine of GFM tables: head lines, delimiter rows and body rows.
+use calls::Head;
+use calls::Row;
+use calls::either;
+use calls::head_plan;
+use calls::row_plan;
+use stream::fill;
+use tokenizer::event::Event;
+ghost use mathlib.Core.Path.{_≡_};
+ghost use mathlib.Core.Bool.{_||_};
+ghost use lib.ListN.{length};
+ghost use Rattle.gfm_table.specs.Calls.{headOf, headSlots, rowOf, rowSlots};
+
+pub mod calls;
+pub mod delimiter;
+pub mod heads;
+pub mod states;
+pub mod stream;
+
+// A head at an offset: two lines of the sheet.
+pub fn head(
+    sheet: &[u8],
+    offset: usize,
+    code_indented: bool,
+    lazy: bool,
+    pierced: bool,
+    raw: &mut [Event],
+) -> Head
+    ensures { λ r. ⌜ (r ≡ headOf (now (sheet .entry)) offset «code_indented» (lazy || pierced) (length (now (raw .entry)))) × (now (raw .exit) ≡ headSlots (now (sheet .entry)) offset «code_indented» (lazy || pierced) (length (now (raw .entry)))) ⌝ }
+{
+    let plan = head_plan(
+        sheet,
+        offset,
+        code_indented,
+        either(lazy, pierced),
+        raw.len(),
+    );
+    let cursor = plan.cursor;
+    fill(sheet, cursor, raw);
+    plan.answer
+}
+
+// A body row at an offset: one line of the sheet.
+pub fn row(sheet: &[u8], offset: usize, lazy: bool, raw: &mut [Event]) -> Row
+    ensures { λ r. ⌜ (r ≡ rowOf (now (sheet .entry)) offset lazy (length (now (raw .entry)))) × (now (raw .exit) ≡ rowSlots (now (sheet .entry)) offset lazy (length (now (raw .entry)))) ⌝ }
+{
+    let plan = row_plan(sheet, offset, lazy, raw.len());
+    let cursor = plan.cursor;
+    fill(sheet, cursor, raw);
+    plan.answer
+}

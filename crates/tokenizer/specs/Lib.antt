@@ -1,6 +1,7 @@
 pub mod Bytes
 pub mod Points
 pub mod Events
+pub mod Slots
 pub mod Lines
 pub mod Places
 pub mod Feed

@@ -1,4 +1,4 @@
-// The byte feed of markdown 1.0.0's tokenizer: kinds of bytes, points, events, units, whitespace runs and lines. All by value.
+// The byte feed of markdown 1.0.0's tokenizer: kinds of bytes, points, events, units, whitespace runs and lines, all by value, and slots of events.
 
 pub mod event;
 pub mod feed;
@@ -6,3 +6,4 @@ pub mod kinds;
 pub mod lines;
 pub mod moves;
 pub mod partial_space_or_tab;
+pub mod slots;

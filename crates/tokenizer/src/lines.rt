@@ -1,6 +1,7 @@
 // Lines: where they start, where they end, and their numbers.
 use crate::event::Point;
 use crate::moves::ahead;
+use crate::moves::kind_at;
 use crate::moves::space_end;
 ghost use mathlib.Core.Path.{_≡_};
 ghost use Prim.Native.Nat.{_≤_, _+_};
@@ -40,12 +41,19 @@ pub fn line_end(s: &[u8], at: usize) -> u32
     0
 }
 
+// The same at a point.
+pub fn end_at(s: &[u8], p: Point) -> u32
+    ensures { λ r. ⌜ r ≡ endAt (drop (p .index) (now (s .entry))) ⌝ }
+{
+    line_end(s, p.index as usize)
+}
+
 // Where the bytes of the line end that a place lies in.
 pub fn line_stop(s: &[u8], at: usize) -> usize
     ensures { λ r. ⌜ r ≡ at + length (lineBody (drop at (now (s .entry)))) ⌝ }
 {
     let mut i = at;
-    while ahead(s, i) != 2 {
+    while kind_at(s, i) != 2 {
         i += 1;
     }
     i
@@ -75,7 +83,7 @@ pub fn is_blank(s: &[u8], p: Point) -> bool
     ensures { λ r. ⌜ r ≡ blank kindOf (restOf (now (s .entry)) p) ⌝ }
 {
     let q = space_end(s, p);
-    ahead(s, q.index as usize) == 2
+    ahead(s, q) == 2
 }
 
 // Whether a line end is complete with the byte b, where the sheet goes on at a place.

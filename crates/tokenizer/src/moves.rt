@@ -10,13 +10,20 @@ ghost use Rattle.tokenizer.specs.Lines.{indent};
 ghost use Rattle.tokenizer.specs.Moves.{aheadOf, restOf, overAt, runOf, Inside};
 
 // The kind of the byte at a place; the end of the sheet counts as a line end.
-pub fn ahead(s: &[u8], at: usize) -> u8
+pub fn kind_at(s: &[u8], at: usize) -> u8
     ensures { λ r. ⌜ r ≡ aheadOf kindOf (drop at (now (s .entry))) ⌝ }
 {
     if at < s.len() {
         return kind(s[at]);
     }
     2
+}
+
+// The same at a point.
+pub fn ahead(s: &[u8], p: Point) -> u8
+    ensures { λ r. ⌜ r ≡ aheadOf kindOf (drop (p .index) (now (s .entry))) ⌝ }
+{
+    kind_at(s, p.index as usize)
 }
 
 // The point after the byte at a point.
@@ -34,7 +41,7 @@ pub fn run_end(s: &[u8], p: Point, k: u8) -> Point
     ensures { λ r. ⌜ r ≡ past p (runOf kindOf k (restOf (now (s .entry)) p)) ⌝ }
 {
     let mut q = p;
-    while ahead(s, q.index as usize) == k {
+    while ahead(s, q) == k {
         q = over(s, q);
     }
     q

@@ -12,16 +12,13 @@ use Rattle.tokenizer.proofs.lines.is_blank.Tie as tie
 space-end-requires : tie.Need-space-end-requires
 space-end-requires c κs = search needs
 
-cast-ahead : tie.Need-cast-ahead
-cast-ahead c = search needs
-
 ahead-requires : tie.Need-ahead-requires
 ahead-requires c κs = search needs
 
 returns : tie.Need-returns
 returns c =
-    let a = c .before .before .before .before .args in
-    ap (λ (k : ℕ). eqb k 2) (rw (c .before .before .space-end .ensures) at (c .ahead .ensures)) ∙ sym (blank-ahead (now (a .s)) (a .p))
+    let a = c .before .before .before .args in
+    ap (λ (k : ℕ). eqb k 2) (rw (c .before .space-end .ensures) at (c .ahead .ensures)) ∙ sym (blank-ahead (now (a .s)) (a .p))
 
 pub is-blank-spec : {M : Type 1} → statement M
-is-blank-spec = tie.close (tie.spec space-end-requires cast-ahead ahead-requires returns)
+is-blank-spec = tie.close (tie.spec space-end-requires ahead-requires returns)

@@ -20,11 +20,11 @@ abbrev μ-loop : tie.MeasureT-loop
 loop-holds : tie.Need-loop-holds Inv-loop μ-loop
 loop-holds c = refl
 
-ahead-requires : tie.Need-ahead-requires Inv-loop μ-loop
-ahead-requires c κs = search needs
+kind-at-requires : tie.Need-kind-at-requires Inv-loop μ-loop
+kind-at-requires c κs = search needs
 
-front : (c : tie.Then1 Inv-loop μ-loop) → Front (now (c .before .before .before .before .args .s)) (c .before .before .loop .i) (c .before .ahead .result)
-front c = goes _ _ _ (c .before .ahead .ensures) (c .if1 .taken)
+front : (c : tie.Then1 Inv-loop μ-loop) → Front (now (c .before .before .before .before .args .s)) (c .before .before .loop .i) (c .before .kind-at .result)
+front c = goes _ _ _ (c .before .kind-at .ensures) (c .if1 .taken)
 
 add-i : tie.Need-add-i Inv-loop μ-loop
 add-i c = let f = front c in omega (arith, f .below)
@@ -38,9 +38,9 @@ loop-again c = let f = front c in omega (arith, ap length (f .line), c .before .
 returns : tie.Need-returns Inv-loop μ-loop
 returns c =
     let u = drop (c .before .before .loop .i) (now (c .before .before .before .before .args .s)) in
-    omega (arith, ap length (ends u (sym (c .before .ahead .ensures) ∙ c .if1 .left)), c .before .before .loop .inv)
+    omega (arith, ap length (ends u (sym (c .before .kind-at .ensures) ∙ c .if1 .left)), c .before .before .loop .inv)
 
 pub line-stop-spec : {M : Type 1} → statement M
 line-stop-spec =
     tie.close
-    (tie.spec Inv-loop μ-loop loop-holds ahead-requires add-i loop-less loop-again returns)
+    (tie.spec Inv-loop μ-loop loop-holds kind-at-requires add-i loop-less loop-again returns)

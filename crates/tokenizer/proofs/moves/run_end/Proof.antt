@@ -22,17 +22,14 @@ abbrev μ-loop : tie.MeasureT-loop
 loop-holds : tie.Need-loop-holds Inv-loop μ-loop
 loop-holds c = (c .before .pre .0, refl)
 
-cast-ahead : tie.Need-cast-ahead Inv-loop μ-loop
-cast-ahead c = search needs
-
 ahead-requires : tie.Need-ahead-requires Inv-loop μ-loop
 ahead-requires c κs = search needs
 
-front : (c : tie.Then1 Inv-loop μ-loop) → let a = c .before .before .before .before .before .args in Front (now (a .s)) (c .before .before .before .loop .q .index) (a .k)
-front c = goes _ _ _ (sym (c .if1 .taken) ∙ c .before .ahead .ensures) (c .before .before .before .before .before .pre .1)
+front : (c : tie.Then1 Inv-loop μ-loop) → let a = c .before .before .before .before .args in Front (now (a .s)) (c .before .before .loop .q .index) (a .k)
+front c = goes _ _ _ (sym (c .if1 .taken) ∙ c .before .ahead .ensures) (c .before .before .before .before .pre .1)
 
 over-requires : tie.Need-over-requires Inv-loop μ-loop
-over-requires c κs = (c .before .before .before .loop .inv .0, front c .below)
+over-requires c κs = (c .before .before .loop .inv .0, front c .below)
 
 loop-less : tie.Need-loop-less Inv-loop μ-loop
 loop-less c = let f = front (c .before) in rw (c .over .ensures) (omega arith)
@@ -40,14 +37,14 @@ loop-less c = let f = front (c .before) in rw (c .over .ensures) (omega arith)
 loop-again : tie.Need-loop-again Inv-loop μ-loop
 loop-again c =
     let f = front (c .before) in
-    let l = c .before .before .before .before .loop in
-    let k = c .before .before .before .before .before .before .args .k in
+    let l = c .before .before .before .loop in
+    let k = c .before .before .before .before .before .args .k in
     rw (c .over .ensures) (over-inside _ (l .q) k f (l .inv .0), end-over _ (l .q) k f (runOf kindOf k) (runOf kindOf k) (run-on kindOf k) ∙ l .inv .1)
 
 returns : tie.Need-returns Inv-loop μ-loop
 returns c =
-    let l = c .before .before .before .loop in
-    let k = c .before .before .before .before .before .args .k in
+    let l = c .before .before .loop in
+    let k = c .before .before .before .before .args .k in
     sym (end-none (runOf kindOf k) _ (l .q) (l .inv .0) (run-stops k _ (λ z. c .if1 .left (c .before .ahead .ensures ∙ z)))) ∙ l .inv .1
 
 pub run-end-spec : {M : Type 1} → statement M
@@ -57,7 +54,6 @@ run-end-spec =
     Inv-loop
     μ-loop
     loop-holds
-    cast-ahead
     ahead-requires
     over-requires
     loop-less

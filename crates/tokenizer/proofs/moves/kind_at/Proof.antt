@@ -1,11 +1,11 @@
--- `moves::ahead` meets its contract: the sheet goes on, or has ended.
+-- `moves::kind_at` meets its contract: the sheet goes on, or has ended.
 -- Assumes nothing.
 use borrow.Author.Needs.{needs}
 use lib.ListN.{drop-of-length-le}
 use lib.Seq.{drop-cons}
 use denote.Ref.{now}
-use Rattle.tokenizer.proofs.moves.ahead.Statement.{statement}
-use Rattle.tokenizer.proofs.moves.ahead.Tie as tie
+use Rattle.tokenizer.proofs.moves.kind_at.Statement.{statement}
+use Rattle.tokenizer.proofs.moves.kind_at.Tie as tie
 
 shared-slice-read-kind : tie.Need-shared-slice-read-kind
 shared-slice-read-kind c = search needs
@@ -19,5 +19,5 @@ returns c = let a = c .before .before .before .before .args in rw (drop-cons (no
 returns-2 : tie.Need-returns-2
 returns-2 c = rw (drop-of-length-le (now (c .before .before .args .s)) (c .if1 .left))
 
-pub ahead-spec : {M : Type 1} → statement M
-ahead-spec = tie.close (tie.spec shared-slice-read-kind kind-requires returns returns-2)
+pub kind-at-spec : {M : Type 1} → statement M
+kind-at-spec = tie.close (tie.spec shared-slice-read-kind kind-requires returns returns-2)

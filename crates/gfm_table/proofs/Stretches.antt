@@ -1,0 +1,308 @@
+-- The stretches of a delimiter row, one after the other.
+-- Assumes nothing.
+use Prim.Native.Nat.{ℕ, suc, _+_, _≤_, _<_}
+use mathlib.Core.Path.{_≡_, refl, ap, sym, _∙_}
+use mathlib.Core.Bool.{Bool, true, false, cond, _&&_, _||_, false≢true}
+use mathlib.Core.List.{List, [], _∷_, _++_, append-nil}
+use native.Mathlib.Nat.{add-zero, add-assoc}
+use native.Mathlib.Omega.{arith}
+use borrow.Author.Tests.{eqb-true, eqb-false, ne-eqb, lt-ltb, le-ltb}
+use lib.Dec.{eqb, ltb}
+use lib.ListN.{length, drop, getD}
+use Rattle.tokenizer.specs.declared.event.Point.{Point}
+use Rattle.gfm_table.specs.declared.delimiter.Cell.the-variants.{Empty, Value, Bad}
+use Rattle.gfm_table.specs.declared.delimiter.Values.the-variants.{Count, Bad as NoValues}
+use Rattle.tokenizer.specs.Bytes.{kindOf, isEnd}
+use Rattle.tokenizer.specs.Points.{past}
+use Rattle.tokenizer.specs.Lines.{isEmpty, indent, unindented}
+use Rattle.gfm_table.specs.Heads.{untailed, isValue, onStretch, stretches, trimmed, unled, untrailed, allValues, values, marked, permitted, isDelimiterRow}
+use Rattle.tokenizer.specs.Lines.{lineBody}
+use Rattle.tokenizer.specs.Moves.{aheadOf, restOf, overAt, Inside}
+use Rattle.gfm_table.specs.Machine.{pipeFirst}
+use Rattle.gfm_table.specs.Delimiters.{stretch, written, cellAt, countIf, restAt, valuesAt, delimiterAt}
+use Rattle.tokenizer.proofs.Ahead.{Front, ends, runEnd, end-over, rest-end, inside-end, end-end}
+use Rattle.gfm_table.proofs.Stops.{led-ahead}
+use Rattle.tokenizer.proofs.Runs.{space-split}
+use Rattle.gfm_table.proofs.Delimiters.{written-on, written-none}
+
+-- ## Stretches
+
+-- what follows the first stretch: nothing, or a pipe
+pub beyond : List ℕ → List ℕ
+beyond [] = []
+beyond (b ∷ u) = cond (eqb (kindOf b) 3) (b ∷ u) (beyond u)
+
+pub stretch-split : (u : List ℕ) → stretch kindOf u ++ beyond u ≡ u
+unfolding stretch beyond
+stretch-split [] = refl
+stretch-split (b ∷ u) = go (eqb (kindOf b) 3) (stretch-split u)
+  where
+    go : (t : Bool) → stretch kindOf u ++ beyond u ≡ u → cond t [] (b ∷ stretch kindOf u) ++ cond t (b ∷ u) (beyond u) ≡ b ∷ u
+    go true e = refl
+    go false e = ap (λ (l : List ℕ). b ∷ l) e
+
+pub beyond-first : (u : List ℕ) (b : ℕ) (w : List ℕ) → beyond u ≡ b ∷ w → kindOf b ≡ 3
+unfolding beyond
+beyond-first [] b w e = absurd (let z : _≡_ {A = ℕ} 0 1 = cc in omega arith)
+beyond-first (c ∷ u) b w e = go (eqb (kindOf c) 3) refl (λ i. beyond-first u b w i) e
+  where
+    go : (t : Bool) → eqb (kindOf c) 3 ≡ t → (beyond u ≡ b ∷ w → kindOf b ≡ 3) → cond t (c ∷ u) (beyond u) ≡ b ∷ w → kindOf b ≡ 3
+    go true h r e = let i : c ≡ b = cc in rw (← i) (eqb-true (kindOf c) 3 h)
+    go false h r e = r e
+
+-- the cells of a line: the stretches, whitespace off
+abbrev pub cells : List ℕ → List (List ℕ)
+cells u = trimmed kindOf (stretches kindOf u)
+
+abbrev pub others : List ℕ → List (List ℕ)
+others [] = []
+others (b ∷ w) = stretches kindOf w
+
+stretches-split : (u : List ℕ) → stretches kindOf u ≡ stretch kindOf u ∷ others (beyond u)
+unfolding stretches stretch beyond
+stretches-split [] = refl
+stretches-split (b ∷ u) = go (eqb (kindOf b) 3) (stretches-split u)
+  where
+    go : (t : Bool) → stretches kindOf u ≡ stretch kindOf u ∷ others (beyond u)
+        → cond t ([] ∷ stretches kindOf u) (onStretch b (stretches kindOf u)) ≡ cond t [] (b ∷ stretch kindOf u) ∷ others (cond t (b ∷ u) (beyond u))
+    go true e = refl
+    go false e = ap (onStretch b) e
+
+pub cells-split : (u : List ℕ) → cells u ≡ written u ∷ trimmed kindOf (others (beyond u))
+unfolding trimmed
+cells-split u = ap (trimmed kindOf) (stretches-split u)
+
+-- the last stretch, and one before a pipe
+pub cells-last : (u : List ℕ) → beyond u ≡ [] → cells u ≡ written u ∷ []
+unfolding trimmed
+cells-last u e = cells-split u ∙ ap (λ (l : List ℕ). written u ∷ trimmed kindOf (others l)) e
+
+pub cells-more : (u : List ℕ) (b : ℕ) (w : List ℕ) → beyond u ≡ b ∷ w → cells u ≡ written u ∷ cells w
+cells-more u b w e = cells-split u ∙ ap (λ (l : List ℕ). written u ∷ trimmed kindOf (others l)) e
+
+pub untrailed-more : (c : List ℕ) (w : List ℕ) → untrailed (c ∷ cells w) ≡ c ∷ untrailed (cells w)
+unfolding untrailed
+untrailed-more c w = rw (cells-split w)
+
+-- ## What a cell says of the stretches that are left
+
+module _ (x e : Point) where
+  is-value : (a b : Bool) → Value e ≡ cond a (Empty x) (cond b (Value x) Bad) → (e ≡ x) × (a ≡ false) × (b ≡ true)
+  is-value true b h = absurd (let z : _≡_ {A = ℕ} 0 1 = cc in omega arith)
+  is-value false true h = (cc, refl, refl)
+  is-value false false h = absurd (let z : _≡_ {A = ℕ} 0 1 = cc in omega arith)
+
+  is-empty : (a b : Bool) → Empty e ≡ cond a (Empty x) (cond b (Value x) Bad) → (e ≡ x) × (a ≡ true)
+  is-empty true b h = (cc, refl)
+  is-empty false true h = absurd (let z : _≡_ {A = ℕ} 0 1 = cc in omega arith)
+  is-empty false false h = absurd (let z : _≡_ {A = ℕ} 0 1 = cc in omega arith)
+
+is-bad : (x : Point) (a b : Bool) → Bad ≡ cond a (Empty x) (cond b (Value x) Bad) → (a ≡ false) × (b ≡ false)
+is-bad x true b h = absurd (let z : _≡_ {A = ℕ} 0 1 = cc in omega arith)
+is-bad x false true h = absurd (let z : _≡_ {A = ℕ} 0 1 = cc in omega arith)
+is-bad x false false h = (refl, refl)
+
+all-bad : (c : List ℕ) (cs : List (List ℕ)) → isEmpty c ≡ false → isValue kindOf c ≡ false → allValues kindOf (untrailed (c ∷ cs)) ≡ false
+unfolding untrailed allValues
+all-bad c [] e f = rw (e, f)
+all-bad c (d ∷ cs) e f = rw f
+
+head-ahead : (v : List ℕ) (b : ℕ) (w : List ℕ) → lineBody v ≡ b ∷ w → aheadOf kindOf v ≡ kindOf b
+unfolding lineBody
+head-ahead [] b w e = absurd (let z : _≡_ {A = ℕ} 0 1 = cc in omega arith)
+head-ahead (c ∷ v) b w e = go (isEnd c) e
+  where
+    go : (t : Bool) → cond t [] (c ∷ lineBody v) ≡ b ∷ w → kindOf c ≡ kindOf b
+    go true e = absurd (let z : _≡_ {A = ℕ} 0 1 = cc in omega arith)
+    go false e = cc
+
+none : (c : List ℕ) → isEmpty c ≡ true → isValue kindOf c ≡ false
+none [] e = refl
+none (b ∷ c) e = absurd (false≢true e)
+
+module _ (s : List ℕ) (q : Point) (m : ℕ) where
+  abbrev pub stop : Point
+  stop = runEnd (stretch kindOf) s q
+
+  abbrev pub line : List ℕ
+  line = restOf s q
+
+  pub stop-rest : restOf s stop ≡ beyond line
+  stop-rest = rest-end (stretch kindOf) beyond stretch-split s q
+
+  stop-inside : Inside s q → Inside s stop
+  stop-inside = inside-end (stretch kindOf) beyond stretch-split s q
+
+  pub last-stretch : (aheadOf kindOf (drop (stop .index) s) ≡ 3 → ⊥) → beyond line ≡ []
+  last-stretch h = go (beyond line) refl
+    where
+      go : (l : List ℕ) → beyond line ≡ l → l ≡ []
+      go [] i = refl
+      go (b ∷ w) i = absurd (h (head-ahead (drop (stop .index) s) b w (stop-rest ∙ i) ∙ beyond-first line b w i))
+
+  last-point : beyond line ≡ [] → past q line ≡ stop
+  last-point e = ap (past q) (sym (stretch-split line) ∙ ap (λ (l : List ℕ). stretch kindOf line ++ l) e ∙ append-nil (stretch kindOf line))
+
+  pub more-stretch : Front s (stop .index) 3 → cells line ≡ written line ∷ cells (restOf s (overAt s stop))
+  more-stretch f = cells-more line _ _ (sym stop-rest ∙ f .line)
+
+  more-point : (f : Front s (stop .index) 3) → past (overAt s stop) (restOf s (overAt s stop)) ≡ past q line
+  more-point f =
+      end-over s stop 3 f (λ u. u) (λ u. u) (λ b u e. refl) ∙ end-end (stretch kindOf) beyond stretch-split s q (λ u. u) (λ u. u) (λ u. sym (stretch-split u))
+
+  pub rest-bad : Bad ≡ cellAt q line → NoValues ≡ restAt m q line
+  rest-bad h =
+      let i = is-bad stop (isEmpty (written line)) (isValue kindOf (written line)) h in
+      rw (cells-split line, all-bad (written line) (trimmed kindOf (others (beyond line))) (i .0) (i .1))
+
+  rest-empty-more : Empty stop ≡ cellAt q line → Front s (stop .index) 3 → NoValues ≡ restAt m q line
+  unfolding allValues
+  rest-empty-more h f =
+      let i = is-empty stop stop (isEmpty (written line)) (isValue kindOf (written line)) h .1 in
+      rw (more-stretch f, untrailed-more (written line) (restOf s (overAt s stop)), none (written line) i)
+
+  rest-empty-last : Empty stop ≡ cellAt q line → (aheadOf kindOf (drop (stop .index) s) ≡ 3 → ⊥) → Count m stop ≡ restAt m q line
+  unfolding allValues untrailed
+  rest-empty-last h z =
+      let i = is-empty stop stop (isEmpty (written line)) (isValue kindOf (written line)) h .1 in
+      let l = last-stretch z in
+      rw (cells-last line l, i, last-point l, add-zero)
+
+  rest-value-last : Value stop ≡ cellAt q line → (aheadOf kindOf (drop (stop .index) s) ≡ 3 → ⊥) → Count (m + 1) stop ≡ restAt m q line
+  unfolding allValues untrailed
+  rest-value-last h z =
+      let i = is-value stop stop (isEmpty (written line)) (isValue kindOf (written line)) h in
+      let l = last-stretch z in
+      rw (cells-last line l, i .1, i .2, last-point l)
+
+  rest-value-more : Value stop ≡ cellAt q line → Front s (stop .index) 3 → restAt (m + 1) (overAt s stop) (restOf s (overAt s stop)) ≡ restAt m q line
+  unfolding allValues
+  rest-value-more h f =
+      let i = is-value stop stop (isEmpty (written line)) (isValue kindOf (written line)) h in
+      let n = length (untrailed (cells (restOf s (overAt s stop)))) in
+      let l : (m + 1) + n ≡ m + suc n = omega arith in
+      rw (more-stretch f, untrailed-more (written line) (restOf s (overAt s stop)), i .2, more-point f, l)
+
+  -- the same at the point that the cell gives
+  module _ (e : Point) (h : Empty e ≡ cellAt q line) where
+    empty-stop : e ≡ stop
+    empty-stop = is-empty stop e (isEmpty (written line)) (isValue kindOf (written line)) h .0
+
+    pub empty-more : Front s (e .index) 3 → NoValues ≡ restAt m q line
+    empty-more f = rest-empty-more (rw empty-stop at h) (rw empty-stop at f)
+
+    pub empty-last : (aheadOf kindOf (drop (e .index) s) ≡ 3 → ⊥) → Count m e ≡ restAt m q line
+    empty-last z = rw empty-stop (rest-empty-last (rw empty-stop at h) (rw empty-stop at z))
+
+  module _ (e : Point) (h : Value e ≡ cellAt q line) where
+    value-stop : e ≡ stop
+    value-stop = is-value stop e (isEmpty (written line)) (isValue kindOf (written line)) h .0
+
+    pub value-inside : Inside s q → Inside s e
+    value-inside i = rw value-stop (stop-inside i)
+
+    pub value-later : q .index ≤ e .index
+    value-later = rw value-stop (omega arith)
+
+    pub value-more : Front s (e .index) 3 → restAt (m + 1) (overAt s e) (restOf s (overAt s e)) ≡ restAt m q line
+    value-more f = rw value-stop (rest-value-more (rw value-stop at h) (rw value-stop at f))
+
+    pub value-last : (aheadOf kindOf (drop (e .index) s) ≡ 3 → ⊥) → Count (m + 1) e ≡ restAt m q line
+    value-last z = rw value-stop (rest-value-last (rw value-stop at h) (rw value-stop at z))
+
+-- ## A leading divider
+
+beyond-space : (u : List ℕ) → beyond u ≡ beyond (unindented kindOf u)
+unfolding beyond unindented
+beyond-space [] = refl
+beyond-space (b ∷ u) = go (eqb (kindOf b) 1) refl (beyond-space u)
+  where
+    go : (t : Bool) → eqb (kindOf b) 1 ≡ t → beyond u ≡ beyond (unindented kindOf u) → beyond (b ∷ u) ≡ beyond (cond t (unindented kindOf u) (b ∷ u))
+    go true e h = rw (eqb-true (kindOf b) 1 e) h
+    go false e h = refl
+
+-- nothing before a pipe: the first cell is dropped
+values-led : (u : List ℕ) (b : ℕ) (w : List ℕ) → unindented kindOf u ≡ b ∷ w → kindOf b ≡ 3 → values kindOf u ≡ untrailed (cells w)
+unfolding stretch beyond
+values-led u b w e k =
+    let l : beyond u ≡ b ∷ w = beyond-space u ∙ ap beyond e ∙ rw k in
+    let n : written u ≡ [] = written-none kindOf u (rw (e, k)) in
+    rw (cells-more u b w l, n, cells-split w)
+
+unled-solid : (b : ℕ) (y : List ℕ) (cs : List (List ℕ)) → unled ((b ∷ y) ∷ cs) ≡ (b ∷ y) ∷ cs
+unled-solid b y [] = refl
+unled-solid b y (c ∷ cs) = refl
+
+values-plain : (u : List ℕ) → pipeFirst (unindented kindOf u) ≡ false → values kindOf u ≡ untrailed (cells u)
+unfolding beyond
+values-plain u h = ap untrailed (go (unindented kindOf u) refl h)
+  where
+    go : (v : List ℕ) → unindented kindOf u ≡ v → pipeFirst v ≡ false → unled (cells u) ≡ cells u
+    go [] e h = rw (cells-last u (beyond-space u ∙ ap beyond e))
+    go (c ∷ x) e h = rw (cells-split u, written-on kindOf u c x e (eqb-false (kindOf c) 3 h), unled-solid)
+
+module _ (s : List ℕ) (p : Point) where
+  abbrev solidAt : Point
+  solidAt = runEnd (indent kindOf) s p
+
+  pub values-led-at : (f : Front s (solidAt .index) 3) → restAt 0 (overAt s solidAt) (restOf s (overAt s solidAt)) ≡ valuesAt p (restOf s p)
+  values-led-at f =
+      let r = rest-end (indent kindOf) (unindented kindOf) (space-split kindOf) s p in
+      let e : past (overAt s solidAt) (restOf s (overAt s solidAt)) ≡ past p (restOf s p)
+      = end-over s solidAt 3 f (λ u. u) (λ u. u) (λ b u e. refl) ∙ end-end (indent kindOf) (unindented kindOf) (space-split kindOf) s p (λ u. u) (λ u. u) (λ u. sym (space-split kindOf u)) in
+      rw (values-led (restOf s p) _ _ (sym r ∙ f .line) (f .kind), e)
+
+  pub values-plain-at : (aheadOf kindOf (drop (solidAt .index) s) ≡ 3 → ⊥) → restAt 0 p (restOf s p) ≡ valuesAt p (restOf s p)
+  values-plain-at h = rw (values-plain (restOf s p) (led-ahead s p ∙ ne-eqb _ 3 h))
+
+-- ## Marks
+
+pub unmarked : (u : List ℕ) → aheadOf kindOf u ≡ 2 → false ≡ marked kindOf (lineBody u)
+unfolding marked
+unmarked u e = rw (ends u e)
+
+pub marked-at : (s : List ℕ) (i k : ℕ) → Front s i k → marked kindOf (lineBody (drop i s)) ≡ (eqb k 3 || (eqb k 6 || marked kindOf (lineBody (drop (i + 1) s))))
+unfolding marked
+marked-at s i k f = rw (f .line, f .kind)
+
+-- ## The whole row
+
+pub is-count : (c : Bool) (n m : ℕ) (x e : Point) → Count n e ≡ cond c (Count m x) NoValues → (n ≡ m) × (e ≡ x) × (c ≡ true)
+is-count true n m x e h = (cc, cc, refl)
+is-count false n m x e h = absurd (let z : _≡_ {A = ℕ} 0 1 = cc in omega arith)
+
+pub is-none : (c : Bool) (v : ℕ) (x : Point) → NoValues ≡ cond c (Count v x) NoValues → c ≡ false
+is-none true v x h = absurd (let z : _≡_ {A = ℕ} 0 1 = cc in omega arith)
+is-none false v x h = refl
+
+module _ (on : Bool) (p : Point) (u : List ℕ) where
+  pub row-unpermitted : permitted kindOf on u ≡ false → NoValues ≡ delimiterAt on p u
+  row-unpermitted e = rw e
+
+  pub row-unmarked : marked kindOf u ≡ false → NoValues ≡ delimiterAt on p u
+  row-unmarked e = rw e (go (permitted kindOf on u))
+    where
+      go : (t : Bool) → NoValues ≡ cond (t && false) (Count (length (values kindOf u)) (past p u)) NoValues
+      go true = refl
+      go false = refl
+
+  module _ (a : permitted kindOf on u ≡ true) (b : marked kindOf u ≡ true) where
+    pub row-bad : NoValues ≡ valuesAt p u → NoValues ≡ delimiterAt on p u
+    row-bad h = rw (a, b, is-none (allValues kindOf (values kindOf u)) (0 + length (values kindOf u)) (past p u) h) (go (ltb 0 (length (values kindOf u))))
+      where
+        go : (t : Bool) → NoValues ≡ cond (t && false) (Count (length (values kindOf u)) (past p u)) NoValues
+        go true = refl
+        go false = refl
+
+    module _ (n : ℕ) (e : Point) (h : Count n e ≡ valuesAt p u) where
+      row-values : (n ≡ 0 + length (values kindOf u)) × (e ≡ past p u) × (allValues kindOf (values kindOf u) ≡ true)
+      row-values = is-count (allValues kindOf (values kindOf u)) n (0 + length (values kindOf u)) (past p u) e h
+
+      pub row-count : 0 < n → Count n e ≡ delimiterAt on p u
+      row-count z =
+          let v = row-values in
+          let l : n ≡ length (values kindOf u) = omega (arith, v .0) in
+          rw (a, b, v .2, lt-ltb 0 (length (values kindOf u)) (rw (← l) z), l, v .1)
+
+      pub row-none : n ≤ 0 → NoValues ≡ delimiterAt on p u
+      row-none z = let v = row-values in rw (a, b, le-ltb 0 (length (values kindOf u)) (omega (arith, v .0)))

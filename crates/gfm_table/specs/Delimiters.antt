@@ -1,0 +1,92 @@
+-- What the promises about delimiter rows cite: the first stretch of a line, and what it is.
+use Prim.Native.Nat.{ℕ, _+_}
+use mathlib.Core.List.{List, [], _∷_}
+use mathlib.Core.Bool.{Bool, true, false, cond}
+use lib.Dec.{eqb}
+use mathlib.Core.Path.{_≡_}
+use lib.ListN.{length, drop}
+use Rattle.gfm_table.specs.declared.states.Scan.{Scan}
+use Rattle.gfm_table.specs.declared.states.Step.{Step}
+use Rattle.gfm_table.specs.declared.states.Step.the-variants.{Paused, Ended}
+use Rattle.tokenizer.specs.Events
+use Rattle.gfm_table.specs.Rows.{Piece, delimiterName, delimiterPieces}
+use Rattle.tokenizer.specs.Moves.{restOf}
+use Rattle.gfm_table.specs.Machine.{passedTo, stateOf, Counted}
+use Rattle.tokenizer.specs.declared.event.Point.{Point}
+use Rattle.gfm_table.specs.declared.delimiter.Cell.{Cell}
+use Rattle.gfm_table.specs.declared.delimiter.Cell.the-variants.{Empty, Value, Bad}
+use Rattle.gfm_table.specs.declared.delimiter.Values.{Values}
+use Rattle.gfm_table.specs.declared.delimiter.Values.the-variants.{Count, Bad as NoValues}
+use Rattle.tokenizer.specs.Bytes.{kindOf}
+use Rattle.tokenizer.specs.Points.{past}
+use Rattle.tokenizer.specs.Lines.{isEmpty, unindented, blank}
+use Rattle.gfm_table.specs.Heads.{untailed, hyphens, isValue, stretches, trimmed, untrailed, allValues, values, isDelimiterRow}
+
+module _ (kind : ℕ → ℕ) where
+  -- the bytes up to the first pipe, and what follows them
+  unfoldable pub stretch : List ℕ → List ℕ
+  stretch [] = []
+  stretch (b ∷ u) = cond (eqb (kind b) 3) [] (b ∷ stretch u)
+
+  -- what follows a value's hyphens in its stretch: an optional colon and whitespace
+  abbrev pub closes : List ℕ → Bool
+  closes [] = true
+  closes (b ∷ u) = cond (eqb (kind b) 6) (blank kind (stretch u)) (blank kind (stretch (b ∷ u)))
+
+-- the stretch as it is written, whitespace off at both ends
+abbrev pub written : List ℕ → List ℕ
+written u = untailed kindOf (unindented kindOf (stretch kindOf u))
+
+-- a value where the rest of its stretch is right
+abbrev pub valueIf : Bool → Point → List ℕ → Cell
+valueIf b p u = cond b (Value (past p (stretch kindOf u))) Bad
+
+abbrev pub blankAt : Point → List ℕ → Cell
+blankAt p u = valueIf (blank kindOf (stretch kindOf u)) p u
+
+abbrev pub closedAt : Point → List ℕ → Cell
+closedAt p u = valueIf (closes kindOf u) p u
+
+abbrev pub hyphensAt : Point → List ℕ → Cell
+hyphensAt p u = valueIf (hyphens kindOf (untailed kindOf (stretch kindOf u))) p u
+
+abbrev pub cellAt : Point → List ℕ → Cell
+cellAt p u = cond (isEmpty (written u)) (Empty (past p (stretch kindOf u))) (valueIf (isValue kindOf (written u)) p u)
+
+-- n values and those of some stretches, where each is one
+abbrev pub countIf : List (List ℕ) → ℕ → Point → Values
+countIf cs n e = cond (allValues kindOf cs) (Count (n + length cs) e) NoValues
+
+-- the stretches that are left after n values
+abbrev pub restAt : ℕ → Point → List ℕ → Values
+restAt n p u = countIf (untrailed (trimmed kindOf (stretches kindOf u))) n (past p u)
+
+abbrev pub valuesAt : Point → List ℕ → Values
+valuesAt p u = countIf (values kindOf u) 0 (past p u)
+
+abbrev pub delimiterAt : Bool → Point → List ℕ → Values
+delimiterAt on p u = cond (isDelimiterRow kindOf on u) (Count (length (values kindOf u)) (past p u)) NoValues
+
+-- ## Pieces
+
+module _ (kind : ℕ → ℕ) where
+  unfoldable pub fillerRun : List ℕ → List ℕ
+  fillerRun [] = []
+  fillerRun (b ∷ u) = cond (eqb (delimiterName kind b) Events.GfmTableDelimiterFiller) (b ∷ fillerRun u) []
+
+  unfoldable pub fillerRest : List ℕ → List ℕ
+  fillerRest [] = []
+  fillerRest (b ∷ u) = cond (eqb (delimiterName kind b) Events.GfmTableDelimiterFiller) (fillerRest u) (b ∷ u)
+
+abbrev pub delimiterPiecesAt : List ℕ → Point → List Piece
+delimiterPiecesAt s p = delimiterPieces kindOf (restOf s p)
+
+-- a state after the first of some pieces
+abbrev pub afterOne : Scan → List Piece → Step
+afterOne q [] = Ended q
+afterOne q (x ∷ xs) = Paused (passedTo (x .name) (past (q .at) (x .text)) q)
+
+pub record NextPiece (s : List ℕ) (q : Scan) (r : Step) : Type 0 where
+  pub is : r ≡ afterOne q (delimiterPiecesAt s (q .at))
+  pub left : delimiterPiecesAt s (stateOf r .at) ≡ drop 1 (delimiterPiecesAt s (q .at))
+  pub good : Counted s (stateOf r)

@@ -1,0 +1,266 @@
+// The states of a delimiter row.
+use crate::states::Scan;
+use crate::states::Step;
+use tokenizer::event::Name;
+use tokenizer::event::Point;
+use tokenizer::moves::ahead;
+use tokenizer::moves::kind_at;
+use tokenizer::moves::over;
+use tokenizer::moves::run_end;
+use tokenizer::moves::space_end;
+ghost use mathlib.Core.Path.{_≡_};
+ghost use Prim.Native.Nat.{_≤_};
+ghost use lib.ListN.{length, drop};
+ghost use Rattle.tokenizer.specs.Bytes.{kindOf};
+ghost use Rattle.tokenizer.specs.Points.{past};
+ghost use Rattle.tokenizer.specs.Lines.{lineBody, isEmpty};
+ghost use Rattle.tokenizer.specs.Moves.{restOf, Inside};
+ghost use Rattle.gfm_table.specs.Rows.{delimiterPieces};
+ghost use Rattle.gfm_table.specs.Heads.{marked, permitted};
+ghost use Rattle.gfm_table.specs.Delimiters.{stretch, blankAt, closedAt, hyphensAt, cellAt, restAt, valuesAt, delimiterAt, fillerRun, NextPiece};
+ghost use Rattle.gfm_table.specs.Machine.{Counted};
+
+// What stands between two dividers: nothing but whitespace, a value, or something else. The point is the end of the stretch.
+pub enum Cell {
+    Empty(Point),
+    Value(Point),
+    Bad,
+}
+
+// The values of a delimiter row, with the end of the line.
+pub enum Values {
+    Count(u32, Point),
+    Bad,
+}
+
+// Whether a stretch ends here: at a divider, a line end or the sheet's end.
+pub fn stretch_ends(s: &[u8], p: Point) -> bool
+    ensures { λ r. ⌜ r ≡ isEmpty (stretch kindOf (restOf (now (s .entry)) p)) ⌝ }
+{
+    match ahead(s, p) {
+        2 => true,
+        3 => true,
+        _ => false,
+    }
+}
+
+// After a value: whitespace, and the end of the stretch.
+pub fn head_delimiter_cell_after(s: &[u8], p: Point) -> Cell
+    requires { ⌜ Inside (now s) p ⌝ }
+    ensures { λ r. ⌜ r ≡ blankAt p (restOf (now (s .entry)) p) ⌝ }
+{
+    let e = space_end(s, p);
+    if stretch_ends(s, e) {
+        Cell::Value(e)
+    } else {
+        Cell::Bad
+    }
+}
+
+// After a value's hyphens: an optional colon.
+pub fn head_delimiter_filler(s: &[u8], p: Point) -> Cell
+    requires { ⌜ Inside (now s) p ⌝ }
+    ensures { λ r. ⌜ r ≡ closedAt p (restOf (now (s .entry)) p) ⌝ }
+{
+    match ahead(s, p) {
+        6 => head_delimiter_cell_after(s, over(s, p)),
+        _ => head_delimiter_cell_after(s, p),
+    }
+}
+
+// At a value's hyphens, after an optional colon.
+pub fn head_delimiter_left_alignment_after(s: &[u8], p: Point) -> Cell
+    requires { ⌜ Inside (now s) p ⌝ }
+    ensures { λ r. ⌜ r ≡ hyphensAt p (restOf (now (s .entry)) p) ⌝ }
+{
+    match ahead(s, p) {
+        5 => head_delimiter_filler(s, run_end(s, p, 5)),
+        _ => Cell::Bad,
+    }
+}
+
+// One stretch of a delimiter row.
+pub fn head_delimiter_value_before(s: &[u8], p: Point) -> Cell
+    requires { ⌜ Inside (now s) p ⌝ }
+    ensures { λ r. ⌜ r ≡ cellAt p (restOf (now (s .entry)) p) ⌝ }
+{
+    let q = space_end(s, p);
+    if stretch_ends(s, q) {
+        return Cell::Empty(q);
+    }
+    match ahead(s, q) {
+        6 => head_delimiter_left_alignment_after(s, over(s, q)),
+        _ => head_delimiter_left_alignment_after(s, q),
+    }
+}
+
+// The stretches that are left, after n values.
+pub fn head_delimiter_cells(s: &[u8], p: Point, n: u32) -> Values
+    requires { ⌜ Inside (now s) p × (n ≤ p .index) ⌝ }
+    ensures { λ r. ⌜ r ≡ restAt n p (restOf (now (s .entry)) p) ⌝ }
+{
+    let mut q = p;
+    let mut m = n;
+    loop {
+        match head_delimiter_value_before(s, q) {
+            Cell::Bad => {
+                return Values::Bad;
+            }
+            Cell::Empty(e) => {
+                if ahead(s, e) == 3 {
+                    return Values::Bad;
+                }
+                return Values::Count(m, e);
+            }
+            Cell::Value(e) => {
+                m += 1;
+                if ahead(s, e) == 3 {
+                    q = over(s, e);
+                } else {
+                    return Values::Count(m, e);
+                }
+            }
+        }
+    }
+}
+
+// All stretches. A leading divider has nothing before it.
+pub fn head_delimiter_before(s: &[u8], p: Point) -> Values
+    requires { ⌜ Inside (now s) p ⌝ }
+    ensures { λ r. ⌜ r ≡ valuesAt p (restOf (now (s .entry)) p) ⌝ }
+{
+    let q = space_end(s, p);
+    if ahead(s, q) == 3 {
+        return head_delimiter_cells(s, over(s, q), 0);
+    }
+    head_delimiter_cells(s, p, 0)
+}
+
+// Whether a colon or a divider occurs in the rest of the line.
+pub fn marked_from(s: &[u8], p: Point) -> bool
+    ensures { λ r. ⌜ r ≡ marked kindOf (restOf (now (s .entry)) p) ⌝ }
+{
+    let mut i = p.index as usize;
+    loop {
+        match kind_at(s, i) {
+            2 => {
+                return false;
+            }
+            3 => {
+                return true;
+            }
+            6 => {
+                return true;
+            }
+            _ => {
+                i += 1;
+            }
+        }
+    }
+}
+
+// Whether a line's indent is permitted.
+pub fn permits(s: &[u8], p: Point, on: bool) -> bool
+    requires { ⌜ Inside (now s) p × (p .column ≡ 1) ⌝ }
+    ensures { λ r. ⌜ r ≡ permitted kindOf on (restOf (now (s .entry)) p) ⌝ }
+{
+    if on {
+        let q = space_end(s, p);
+        return q.column <= Point::INDENT_CAP + 1;
+    }
+    true
+}
+
+// The delimiter row: the number of its values and its end, or refused.
+pub fn head_delimiter_start(s: &[u8], p: Point, on: bool) -> Values
+    requires { ⌜ Inside (now s) p × (p .column ≡ 1) ⌝ }
+    ensures { λ r. ⌜ r ≡ delimiterAt on p (restOf (now (s .entry)) p) ⌝ }
+{
+    if permits(s, p, on) {
+        if marked_from(s, p) {
+            match head_delimiter_before(s, p) {
+                Values::Count(n, e) => {
+                    if 0 < n {
+                        return Values::Count(n, e);
+                    }
+                    return Values::Bad;
+                }
+                Values::Bad => {
+                    return Values::Bad;
+                }
+            }
+        }
+    }
+    Values::Bad
+}
+
+// The end of a run of bytes that a delimiter row names fillers.
+pub fn filler_end(s: &[u8], p: Point) -> Point
+    requires { ⌜ Inside (now s) p ⌝ }
+    ensures { λ r. ⌜ r ≡ past p (fillerRun kindOf (restOf (now (s .entry)) p)) ⌝ }
+{
+    let mut q = p;
+    loop {
+        match ahead(s, q) {
+            1 | 2 | 3 | 6 => {
+                return q;
+            }
+            _ => {
+                q = over(s, q);
+            }
+        }
+    }
+}
+
+// The next piece of a delimiter row.
+pub fn delimiter_piece(s: &[u8], st: Scan) -> Step
+    requires { ⌜ Counted (now s) st ⌝ }
+    ensures { λ r. ⌜ NextPiece (now (s .entry)) st r ⌝ }
+{
+    let at = st.at;
+    match ahead(s, at) {
+        1 => {
+            let to = space_end(s, at);
+            Step::Paused(st.passed(Name::SpaceOrTab, to))
+        }
+        2 => Step::Ended(st),
+        3 => {
+            let to = over(s, at);
+            Step::Paused(st.passed(Name::GfmTableCellDivider, to))
+        }
+        6 => {
+            let to = over(s, at);
+            Step::Paused(st.passed(Name::GfmTableDelimiterMarker, to))
+        }
+        _ => {
+            let to = filler_end(s, at);
+            Step::Paused(st.passed(Name::GfmTableDelimiterFiller, to))
+        }
+    }
+}
+
+// How many pieces a delimiter row has.
+pub fn delimiter_count(s: &[u8], p: Point) -> u32
+    requires { ⌜ Inside (now s) p ⌝ }
+    ensures { λ r. ⌜ r ≡ length (delimiterPieces kindOf (restOf (now (s .entry)) p)) ⌝ }
+{
+    let mut q = Scan {
+        at: p,
+        from: p,
+        name: 0,
+        count: 0,
+        size: 0,
+        size_b: 0,
+        seen: false,
+    };
+    loop {
+        match delimiter_piece(s, q) {
+            Step::Paused(t) => {
+                q = t;
+            }
+            Step::Ended(t) => {
+                return t.count;
+            }
+        }
+    }
+}

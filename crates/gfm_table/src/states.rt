@@ -1,0 +1,191 @@
+// The states of a row: between two pieces, in data, after a backslash. Head and body share them.
+use tokenizer::event::Name;
+use tokenizer::event::Point;
+use tokenizer::moves::ahead;
+use tokenizer::moves::over;
+use tokenizer::moves::space_end;
+ghost use mathlib.Core.Path.{_≡_};
+ghost use mathlib.Core.Bool.{false};
+ghost use Prim.Native.Nat.{_<_};
+ghost use Rattle.tokenizer.specs.Bytes.{kindOf};
+ghost use Rattle.tokenizer.specs.Points.{past};
+ghost use Rattle.tokenizer.specs.Moves.{restOf, Inside};
+ghost use Rattle.gfm_table.specs.Machine.{Counted, AtData, dataRun, escaped, countedAs, passedTo, stepped, dataPiece, Passes, whole, startAt, RowRead};
+
+// Where a row is read: the point reached, the last piece, how many pieces, and the head's counters.
+pub struct Scan {
+    pub at: Point,
+    pub from: Point,
+    pub name: u8,
+    pub count: u32,
+    pub size: u32,
+    pub size_b: u32,
+    pub seen: bool,
+}
+
+// A row is read to its end, or paused between two pieces.
+pub enum Step {
+    Paused(Scan),
+    Ended(Scan),
+}
+
+// After a backslash: a backslash or a pipe is passed over.
+pub fn row_escape(s: &[u8], p: Point) -> Point
+    requires { ⌜ Inside (now s) p ⌝ }
+    ensures { λ r. ⌜ r ≡ past p (escaped kindOf (restOf (now (s .entry)) p)) ⌝ }
+{
+    match ahead(s, p) {
+        3 | 4 => over(s, p),
+        _ => p,
+    }
+}
+
+// The end of a run of data.
+pub fn data_end(s: &[u8], p: Point) -> Point
+    requires { ⌜ Inside (now s) p ⌝ }
+    ensures { λ r. ⌜ r ≡ past p (dataRun kindOf false (restOf (now (s .entry)) p)) ⌝ }
+{
+    let mut q = p;
+    loop {
+        match ahead(s, q) {
+            1 | 2 | 3 => {
+                return q;
+            }
+            4 => {
+                q = row_escape(s, over(s, q));
+            }
+            _ => {
+                q = over(s, q);
+            }
+        }
+    }
+}
+
+impl Scan {
+    // One more solid piece is counted.
+    pub fn counted(self, divider: bool) -> Scan
+        requires { ⌜ (self .size < 1000000) × (self .«size_b» < 1000000) ⌝ }
+        ensures { λ r. ⌜ r ≡ countedAs divider self ⌝ }
+    {
+        let at = self.at;
+        let from = self.from;
+        let size = if self.seen { self.size + 1 } else { self.size };
+        Scan {
+            at,
+            from,
+            name: self.name,
+            count: self.count,
+            size,
+            size_b: self.size_b + 1,
+            seen: divider,
+        }
+    }
+
+    // A piece up to a point is passed.
+    pub fn passed(self, name: u8, to: Point) -> Scan
+        requires { ⌜ self .count < 1000000 ⌝ }
+        ensures { λ r. ⌜ r ≡ passedTo name to self ⌝ }
+    {
+        let from = self.at;
+        Scan {
+            at: to,
+            from,
+            name,
+            count: self.count + 1,
+            size: self.size,
+            size_b: self.size_b,
+            seen: self.seen,
+        }
+    }
+}
+
+// Between two pieces: as many more as the budget says, or all that are left.
+pub fn row_break(s: &[u8], st: Scan, budget: usize) -> Step
+    requires { ⌜ Counted (now s) st ⌝ }
+    ensures { λ r. ⌜ Passes (now (s .entry)) st budget r ⌝ }
+{
+    if budget == 0 {
+        return Step::Paused(st);
+    }
+    let at = st.at;
+    match ahead(s, at) {
+        1 => {
+            let to = space_end(s, at);
+            row_break(s, st.passed(Name::SpaceOrTab, to), budget - 1)
+        }
+        2 => Step::Ended(st),
+        3 => {
+            let to = over(s, at);
+            row_break(
+                s,
+                st.counted(true).passed(Name::GfmTableCellDivider, to),
+                budget - 1,
+            )
+        }
+        _ => row_data(s, st, budget - 1),
+    }
+}
+
+// At the first byte of a piece of data.
+pub fn row_data(s: &[u8], st: Scan, budget: usize) -> Step
+    requires { ⌜ AtData (now s) st ⌝ }
+    ensures { λ r. ⌜ Passes (now (s .entry)) (stepped st (dataPiece (now (s .entry)) st)) budget r ⌝ }
+{
+    let at = st.at;
+    let to = data_end(s, at);
+    row_break(s, st.counted(false).passed(Name::Data, to), budget)
+}
+
+// The whole row: the states are resumed until the line ends.
+pub fn row_end(s: &[u8], st: Scan) -> Scan
+    requires { ⌜ Counted (now s) st ⌝ }
+    ensures { λ r. ⌜ r ≡ whole (now (s .entry)) st ⌝ }
+{
+    let mut q = st;
+    loop {
+        match row_break(s, q, 64) {
+            Step::Paused(t) => {
+                q = t;
+            }
+            Step::Ended(t) => {
+                return t;
+            }
+        }
+    }
+}
+
+// The state at the start of a row. The first solid byte counts double unless it is a divider.
+pub fn row_start(s: &[u8], p: Point) -> Scan
+    requires { ⌜ Inside (now s) p ⌝ }
+    ensures { λ r. ⌜ r ≡ startAt (now (s .entry)) p ⌝ }
+{
+    let q = space_end(s, p);
+    match ahead(s, q) {
+        3 => Scan {
+            at: p,
+            from: p,
+            name: 0,
+            count: 0,
+            size: 0,
+            size_b: 0,
+            seen: false,
+        },
+        _ => Scan {
+            at: p,
+            from: p,
+            name: 0,
+            count: 0,
+            size: 0,
+            size_b: 1,
+            seen: true,
+        },
+    }
+}
+
+// A row from its start to the end of its line.
+pub fn row(s: &[u8], p: Point) -> Scan
+    requires { ⌜ Inside (now s) p ⌝ }
+    ensures { λ r. ⌜ RowRead (restOf (now (s .entry)) p) p r ⌝ }
+{
+    row_end(s, row_start(s, p))
+}

@@ -1,0 +1,21 @@
+-- Slots for events that are lent: what stands in one, and what is in all of them once a stream is written, or once they are cleared.
+use Prim.Native.Nat.{ℕ, zero, suc}
+use mathlib.Core.List.{List, [], _∷_}
+use lib.ListN.{getD, drop}
+use Rattle.tokenizer.specs.declared.event.Event.{Event}
+use Rattle.tokenizer.specs.Events.{blankEvent}
+
+-- the event at i, or a blank one past the end
+abbrev pub eventAt : List Event → ℕ → Event
+eventAt xs i = getD xs i blankEvent
+
+-- n slots that the events xs are written to from the left: the first n of xs followed by blank events for ever
+unfoldable pub slotsOf : ℕ → List Event → List Event
+slotsOf zero xs = []
+slotsOf (suc n) xs = eventAt xs 0 ∷ slotsOf n (drop 1 xs)
+
+-- slots of which each from the n-th on is blank
+unfoldable pub clearedFrom : ℕ → List Event → List Event
+clearedFrom n [] = []
+clearedFrom zero (x ∷ xs) = blankEvent ∷ clearedFrom zero xs
+clearedFrom (suc n) (x ∷ xs) = x ∷ clearedFrom n xs
