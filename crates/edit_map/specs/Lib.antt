@@ -4,3 +4,15 @@ pub mod EditReach
 pub mod EditAnswer
 pub mod EditCursor
 pub mod EditSettles
+pub mod Base
+pub mod Tables
+pub mod Raw
+pub mod Accept
+pub mod TablesOf
+pub mod Turns
+pub mod Cursors
+pub mod Align
+pub mod AlignSteps
+pub mod Answers
+pub mod Verdicts
+pub mod RustEdits

@@ -172,7 +172,7 @@ module _ (s : List ℕ) (rest : Point → List Event) where
         go (some f) = row-on f
 
   -- the next line starts in the sheet
-  next-inside : (p : Point) → Inside s p → (endAt (drop (p .index) s) ≡ 0 → ⊥) → Inside s (nextLine p (endAt (drop (p .index) s)))
+  pub next-inside : (p : Point) → Inside s p → (endAt (drop (p .index) s) ≡ 0 → ⊥) → Inside s (nextLine p (endAt (drop (p .index) s)))
   next-inside p h z =
       let l = end-fits (drop (p .index) s) .0 in
       record { short = h .short; within = omega (arith, h .within, length-drop (p .index) s); narrow = omega arith; lined = omega (arith, h .lined); flat = refl }

@@ -3,11 +3,10 @@
 use Prim.Native.Nat.{ℕ, zero, suc, _+_, _-_, _<_, _≤_}
 use mathlib.Core.Path.{_≡_, refl, ap, sym, _∙_}
 use mathlib.Core.List.{List, [], _∷_, _++_}
-use native.Mathlib.Nat.{not-suc-le-zero, le-of-suc-le-suc, sub-zero}
+use native.Mathlib.Nat.{not-suc-le-zero, le-of-suc-le-suc, sub-zero, suc-sub-suc}
 use native.Mathlib.Numerals.{add-one}
-use native.Mathlib.Omega.{arith}
 use lib.ListN.{length, take, drop, set, replicate}
-use lib.Seq.{drop-nil}
+use lib.Seq.{take-nil}
 use Rattle.tokenizer.specs.declared.event.Event.{Event}
 use Rattle.tokenizer.specs.Events.{blankEvent}
 use Rattle.tokenizer.specs.Slots.{eventAt, slotsOf, clearedFrom}
@@ -42,10 +41,7 @@ slots-length (suc n) xs = ap suc (slots-length n (drop 1 xs))
 pub slots-fit : (n : ℕ) (xs : List Event) → length xs ≤ n → slotsOf n xs ≡ xs ++ replicate (n - length xs) blankEvent
 slots-fit n [] l = rw (sub-zero, slots-none n)
 slots-fit zero (x ∷ xs) l = absurd (not-suc-le-zero l)
-slots-fit (suc n) (x ∷ xs) l = slots-one n x xs ∙ ap {B = List Event} (λ r. x ∷ r) (slots-fit n xs (le-of-suc-le-suc l) ∙ ap (λ (k : ℕ). xs ++ replicate k blankEvent) (fewer n (length xs)))
-  where
-    fewer : (a b : ℕ) → a - b ≡ suc a - suc b
-    fewer a b = omega arith
+slots-fit (suc n) (x ∷ xs) l = rw (slots-one n x xs, suc-sub-suc) (ap {B = List Event} (λ r. x ∷ r) (slots-fit n xs (le-of-suc-le-suc l)))
 
 -- slots for some
 pub slots-take : (n : ℕ) (xs : List Event) → n ≤ length xs → slotsOf n xs ≡ take n xs
@@ -96,9 +92,13 @@ unfolding clearedFrom slotsOf
 cleared-slots zero zero xs = refl
 cleared-slots (suc k) zero xs = refl
 cleared-slots zero (suc n) xs = ap {B = List Event} (λ r. blankEvent ∷ r) (cleared-slots zero n (drop 1 xs))
-cleared-slots (suc k) (suc n) [] = ap {B = List Event} (λ r. blankEvent ∷ r) (cleared-slots k n [] ∙ ap (slotsOf n) (take-none k))
-  where
-    take-none : (j : ℕ) → take {A = Event} j [] ≡ []
-    take-none zero = refl
-    take-none (suc j) = refl
+cleared-slots (suc k) (suc n) [] = ap {B = List Event} (λ r. blankEvent ∷ r) (cleared-slots k n [] ∙ ap (slotsOf n) (take-nil k))
 cleared-slots (suc k) (suc n) (x ∷ xs) = ap {B = List Event} (λ r. x ∷ r) (cleared-slots k n xs)
+
+-- A stream by steps: `come s` are the events still to come from a state s that is good, `one s` is the next and `next s` the state after it. What n steps give is what n slots hold.
+module _ {S : Type 0} (Good : S → Type 0) (one : S → Event) (next : S → S) (come : S → List Event) (gives : ℕ → S → List Event)
+    (good : (s : S) → Good s → Good (next s)) (first : (s : S) → Good s → one s ≡ eventAt (come s) 0) (others : (s : S) → Good s → come (next s) ≡ drop 1 (come s))
+    (none : (s : S) → gives 0 s ≡ []) (more : (n : ℕ) (s : S) → gives (suc n) s ≡ one s ∷ gives n (next s)) where
+  pub stream-slots : (n : ℕ) (s : S) → Good s → gives n s ≡ slotsOf n (come s)
+  stream-slots zero s g = none s ∙ sym (slots-full (come s))
+  stream-slots (suc n) s g = rw (more n s, slots-next n (come s), first s g, stream-slots n (next s) (good s g), others s g)

@@ -18,12 +18,12 @@ pub use prog.Routine.{Routine}
 unfoldable pub use prog.Wp.{afterTurn}
 pub use prog.Wp.{Heap, Out, Env, Calls, Loops, Wp, WpFn, Tables, afterSeq, afterBlock, atReturn}
 pub use ghost.Atoms.{Atoms, sem}
-pub use contract.Monad.{Fun, fact}
+pub use contract.Monad.{Fun, fact, fact-mono}
 unfoldable pub use contract.Running.{tablesOf}
 pub use contract.Running.{givenOf, tables}
 pub use types.Kit.{Given, Item, Sq, Goal, cut, runs, anyQ, atRet, ‵, raw, _⊛_, ⋆, _$_, _∵_, !, qed, by, move, keep, drop, use0, use1, use2, use3, split, join, pick, learn, rewrite, fsplit, fsplit3, fjoin, fjoin3, feqL, feqI, suffices, frame, await, done}
 pub use types.Part.{agg, rep, whole, sub, look-in, store-in}
-pub use types.Run.{look, look-raw, store, store-raw, init, forget, stop, hop, fld, from, load, lit, unit-lit, addr, of-opd, bin, and-then, no-more, assigns, assigns-last, land, land-last, first, skips, jumps, blocks, branches, returns, returns-within, enter, alloc1, alloc0, params1, pass1, pass0, free1, free0, exec, Below, again, loops}
+pub use types.Run.{look, look-raw, store, store-raw, init, forget, stop, hop, fld, from, load, lit, unit-lit, true-lit, false-lit, addr, of-opd, bin, and-then, no-more, assigns, assigns-last, land, land-last, first, skips, jumps, blocks, branches, returns, returns-within, enter, alloc1, alloc0, params1, pass1, pass0, free1, free0, exec, Below, again, loops}
 pub use sound.WpLaws.{FmC, fmOf, WpFn-mono}
 pub use denote.RattleType.{RattleType, owns}
 pub use denote.Laws.{Is, shows}

@@ -1,6 +1,6 @@
 -- `slots::at_or_blank` meets its contract.
 -- Assumes nothing.
-use Rattle.tokenizer.proofs.Prelude.{_≡_, refl, sym, _∙_, ap, subst, ℕ, zero, suc, _+_, _-_, _*_, _<_, _≤_, _^_, arith, Bool, true, false, not, List, [], _∷_, _++_, Holds, ltb, ltb→lt, nltb→le, lit<, length, getD, set, take, dropN, length-set, URA, fullShare, Ty, named, imm, mut, erased, w8, w16, w32, w64, tyInt, tyBool, tyUnit, tyPtr, tyRef, tyArray, Val, vunit, vbool, vint, vptr, SProp, ent, sep, emp, id⊢, via, fst∗, ∗emp, Lft, GName, Share, Fml, ftrue, fsep, fat, froom, fdies, flft, Memory, Routine, afterTurn, Heap, Out, Env, Calls, Loops, Wp, WpFn, Tables, afterSeq, afterBlock, atReturn, Atoms, sem, Fun, fact, tablesOf, givenOf, tables, Given, Item, Sq, Goal, cut, runs, anyQ, atRet, ‵, raw, _⊛_, ⋆, _$_, _∵_, !, qed, by, move, keep, drop, use0, use1, use2, use3, split, join, pick, learn, rewrite, fsplit, fsplit3, fjoin, fjoin3, feqL, feqI, suffices, frame, await, done, agg, rep, whole, sub, look-in, store-in, look, look-raw, store, store-raw, init, forget, stop, hop, fld, from, load, lit, unit-lit, addr, of-opd, bin, and-then, no-more, assigns, assigns-last, land, land-last, first, skips, jumps, blocks, branches, returns, returns-within, enter, alloc1, alloc0, params1, pass1, pass0, free1, free0, exec, Below, again, loops, FmC, fmOf, WpFn-mono, RattleType, owns, Is, shows, pointee, uint-vals, uint-tells, uint-makes, nothing-lawful, u8, u16, u32, usize, bool, Array, RefT, MutRef, ShrRef, ptr-vals, mut-tells, shr-tells, sliceTy, sliceVal, ShrSlice, MutSlice, Room, finally, slice-vals, shr-slice-tells, mut-slice-tells, place-is, place-byte, plain, nothing, owned, Contract, Triple, calls-at, calls-at-last, Vals, onEntry, Meets, tripleOf, entered, cited, says, needs, Stays, stay-slice, gave-slice, stay-none-slice, stay-ref, gave-ref, stay-none-ref, stay-none, walkOf, ends-at, walked, goes-slice, goes-gave-slice, goes-none-slice, goes-ref, goes-gave-ref, goes-none-ref, goes-none, walk-meets, yes, Data, uint-data, bool-data, vals, typed, place-fits, holds, fails, tl, big-lit, sl, Mut, Shr, copies, looks-elem, shuts-elem, opens-elem, closes-elem, lends-row, row-back, lends, home, shares, shared-home, array-data, repeat-is, parts-array, whole-array, reads-row, back-row, rf, looks-ref, shuts-ref, opens-ref, closes-ref, answers, calls-plain, calls-plain-last, lends-array, array-home, shares-array, array-shared-home, calls-with, calls-unit, at-unit}
+use Rattle.tokenizer.proofs.Prelude.{_≡_, refl, sym, _∙_, ap, subst, ℕ, zero, suc, _+_, _-_, _*_, _<_, _≤_, _^_, arith, Bool, true, false, not, List, [], _∷_, _++_, Holds, ltb, ltb→lt, nltb→le, lit<, length, getD, set, take, dropN, length-set, URA, fullShare, Ty, named, imm, mut, erased, w8, w16, w32, w64, tyInt, tyBool, tyUnit, tyPtr, tyRef, tyArray, Val, vunit, vbool, vint, vptr, SProp, ent, sep, emp, id⊢, via, fst∗, ∗emp, Lft, GName, Share, Fml, ftrue, fsep, fat, froom, fdies, flft, Memory, Routine, afterTurn, Heap, Out, Env, Calls, Loops, Wp, WpFn, Tables, afterSeq, afterBlock, atReturn, Atoms, sem, Fun, fact, fact-mono, tablesOf, givenOf, tables, Given, Item, Sq, Goal, cut, runs, anyQ, atRet, ‵, raw, _⊛_, ⋆, _$_, _∵_, !, qed, by, move, keep, drop, use0, use1, use2, use3, split, join, pick, learn, rewrite, fsplit, fsplit3, fjoin, fjoin3, feqL, feqI, suffices, frame, await, done, agg, rep, whole, sub, look-in, store-in, look, look-raw, store, store-raw, init, forget, stop, hop, fld, from, load, lit, unit-lit, true-lit, false-lit, addr, of-opd, bin, and-then, no-more, assigns, assigns-last, land, land-last, first, skips, jumps, blocks, branches, returns, returns-within, enter, alloc1, alloc0, params1, pass1, pass0, free1, free0, exec, Below, again, loops, FmC, fmOf, WpFn-mono, RattleType, owns, Is, shows, pointee, uint-vals, uint-tells, uint-makes, nothing-lawful, u8, u16, u32, usize, bool, Array, RefT, MutRef, ShrRef, ptr-vals, mut-tells, shr-tells, sliceTy, sliceVal, ShrSlice, MutSlice, Room, finally, slice-vals, shr-slice-tells, mut-slice-tells, place-is, place-byte, plain, nothing, owned, Contract, Triple, calls-at, calls-at-last, Vals, onEntry, Meets, tripleOf, entered, cited, says, needs, Stays, stay-slice, gave-slice, stay-none-slice, stay-ref, gave-ref, stay-none-ref, stay-none, walkOf, ends-at, walked, goes-slice, goes-gave-slice, goes-none-slice, goes-ref, goes-gave-ref, goes-none-ref, goes-none, walk-meets, yes, Data, uint-data, bool-data, vals, typed, place-fits, holds, fails, tl, big-lit, sl, Mut, Shr, copies, looks-elem, shuts-elem, opens-elem, closes-elem, lends-row, row-back, lends, home, shares, shared-home, array-data, repeat-is, parts-array, whole-array, reads-row, back-row, rf, looks-ref, shuts-ref, opens-ref, closes-ref, answers, calls-plain, calls-plain-last, lends-array, array-home, shares-array, array-shared-home, calls-with, calls-unit, at-unit}
 use Rattle.tokenizer.proofs.Types.{Ev, ev, ev-ty, ev-is}
 use lib.ListN.{List·getD-eq-default}
 use Rattle.tokenizer.specs.Events.{blankEvent}

@@ -1,0 +1,242 @@
+-- The cursor's steps are the stream's turns.
+-- Assumes nothing.
+use Prim.Native.Nat.{ℕ, zero, suc, _+_, _-_, _≤_}
+use mathlib.Core.Path.{_≡_, refl, sym, ap, _∙_, subst}
+use mathlib.Core.List.{List, [], _∷_}
+use mathlib.Core.Bool.{Bool, true, false, cond, _||_, _&&_, not, true≢false}
+use lib.Dec.{eqb, leb, leb·zero, leb·suc-zero, leb·suc-suc}
+use lib.ListN.{drop, length, length-drop}
+use lib.Seq.{drop-drop}
+use native.Mathlib.Omega.{arith}
+use borrow.Author.Tests.{leb-false, le-leb}
+use Rattle.tokenizer.specs.declared.event.Event.{Event}
+use Rattle.tokenizer.specs.Slots.{eventAt, slotsOf}
+use Rattle.tokenizer.specs.Events.{GfmTableCellDivider, SpaceOrTab}
+use Rattle.edit_map.specs.declared.resolve_turn.Phase.{Phase}
+use Rattle.edit_map.specs.declared.resolve_turn.Phase.the-variants.{Out, Head, Row, Cell, Piece, Exit, Text, Copy, Leave, RowExit, HeadExit, End, EndExit, Open, BodyLeave, TableLeave}
+use Rattle.edit_map.specs.declared.resolve_base.Part.the-variants.{Header}
+use Rattle.edit_map.specs.declared.resolve_turn.Mode.{Mode}
+use Rattle.edit_map.specs.declared.resolve_turn.Turn.{Turn}
+use Rattle.edit_map.specs.declared.resolve_look.Look.{Look}
+use Rattle.edit_map.specs.declared.resolve_step.Cursor.{Cursor}
+use Rattle.edit_map.specs.Base.{most, plusOf, isTextName}
+use Rattle.edit_map.specs.Turns.{plain, pieceTurn, turnIn, turnOf}
+use Rattle.edit_map.proofs.Stream.{first, rest, onward, aheadOf, solidOf, turnAt, stream}
+use Rattle.edit_map.specs.Cursors.{moves, lookStart, lookStep, lookAll, isPiece, asks, resolveStep, lookOf, stepAt, stepped, cursorAt, cursorAfter}
+use Rattle.edit_map.proofs.Gives.{Gives, none, more}
+use Rattle.edit_map.specs.Tables.{Table, rawTables, resolvedTables}
+use Rattle.edit_map.specs.Raw.{AreTables}
+use Rattle.edit_map.proofs.Streams.{tables-give, streams}
+use Rattle.edit_map.proofs.Bools.{or-true, or-false}
+
+-- the look ahead at a cursor
+abbrev lookAt : List Event → Cursor → Look
+lookAt es c = lookOf es c (eventAt es (c .at))
+
+-- the turn that a step makes
+abbrev turnHere : List Event → Cursor → Turn
+turnHere es c = turnOf (c .mode) (eventAt es (c .at)) (eventAt es (plusOf (c .at) 1)) (lookAt es c .ahead) (lookAt es c .solid)
+
+-- no record is left to give
+abbrev pub finished : List Event → Cursor → Bool
+finished es c = eqb (stepAt es c .gave) 0
+
+-- ## Reading at a place
+
+pub drop-past : (es : List Event) {n : ℕ} → length es ≤ n → drop n es ≡ []
+drop-past es h = lib.ListN.drop-of-length-le es h
+
+-- a place further on
+drop-plus : (es : List Event) (a b : ℕ) → length es ≤ most → drop (plusOf a b) es ≡ drop b (drop a es)
+drop-plus es a b h = go (leb b (most - a)) refl
+  where
+    go : (t : Bool) → leb b (most - a) ≡ t → drop (cond t (a + b) most) es ≡ drop b (drop a es)
+    go true e = sym (drop-drop b a es)
+    go false e = drop-past es h ∙ sym (drop-drop b a es ∙ drop-past es {n = a + b} (omega (arith, leb-false b (most - a) e)))
+
+event-at : (es : List Event) (i : ℕ) → eventAt es i ≡ first (drop i es)
+event-at [] zero = refl
+event-at [] (suc i) = refl
+event-at (e ∷ es) zero = refl
+event-at (e ∷ es) (suc i) = event-at es i
+
+drop-one : (es : List Event) → drop 1 es ≡ rest es
+drop-one [] = refl
+drop-one (e ∷ es) = refl
+
+drop-two : (es : List Event) → drop 2 es ≡ rest (rest es)
+drop-two [] = refl
+drop-two (e ∷ []) = refl
+drop-two (e ∷ f ∷ es) = refl
+
+plus-none : (a : ℕ) → plusOf a 0 ≡ a
+plus-none a = rw (leb·zero (most - a)) (omega arith)
+
+-- ## The look ahead finds what the stream asks
+
+pub plus-fits : (a b : ℕ) → a + b ≤ most → plusOf a b ≡ a + b
+plus-fits a b h = rw (le-leb b (most - a) (omega arith))
+
+abbrev looking : Bool → ℕ → ℕ → Bool → Look
+looking b n a s = record { on = b; count = n; ahead = a; solid = s }
+
+looks-off : (n a : ℕ) (s : Bool) (es : List Event) → lookAll (looking false n a s) es ≡ looking false n a s
+unfolding lookAll lookStep
+looks-off n a s [] = refl
+looks-off n a s (e ∷ es) = looks-off n a s es
+
+-- a look ahead that is off stays as it is, so a loop may stop there
+pub off-stays : (l : Look) (es : List Event) → l .on ≡ false → lookAll l es ≡ l
+off-stays l es h = subst (λ (b : Bool). lookAll (looking b (l .count) (l .ahead) (l .solid)) es ≡ looking b (l .count) (l .ahead) (l .solid)) (sym h) (looks-off (l .count) (l .ahead) (l .solid) es)
+
+-- where the last text ahead ends, from a place n records on, if there is one
+further : ℕ → ℕ → ℕ → ℕ
+further a n zero = a
+further a n (suc k) = n + suc k
+
+further-space : (a n m k : ℕ) → m ≡ n + 1 → further a m k ≡ further a n (onward k)
+unfolding further
+further-space a n m zero q = refl
+further-space a n m (suc k) q = omega arith
+
+further-text : (n m k : ℕ) → m ≡ n + 1 → further m m k ≡ n + suc k
+unfolding further
+further-text n m zero q = omega arith
+further-text n m (suc k) q = omega arith
+
+further-start : (k : ℕ) → further 1 1 k ≡ suc k
+unfolding further
+further-start zero = refl
+further-start (suc k) = omega arith
+
+abbrev Sees : List Event → Look → ℕ → Bool → Type 0
+Sees es l k z = (lookAll l es .ahead ≡ k) × (lookAll l es .solid ≡ z)
+
+looks : (es : List Event) (n a : ℕ) (s : Bool) → n + length es ≤ most → Sees es (looking true n a s) (further a n (aheadOf es)) (s || solidOf es)
+unfolding lookAll lookStep aheadOf solidOf further
+looks [] n a s h = (refl, sym (or-false s))
+looks (e ∷ es) n a s h = go (plusOf n 1) (plus-fits n 1 (omega arith)) (eqb (e .name) SpaceOrTab) (isTextName (e .name)) (λ m q b z. looks es m b z (omega arith))
+  where
+    d : Bool
+    d = eqb (e .name) GfmTableCellDivider
+
+    go : (m : ℕ) → m ≡ n + 1 → (p t : Bool) → ((k : ℕ) → k ≡ n + 1 → (b : ℕ) (z : Bool) → Sees es (looking true k b z) (further b k (aheadOf es)) (z || solidOf es))
+        → Sees es (cond p (looking true m a s) (cond t (looking true m m true) (looking false n a (s || d)))) (further a n (cond p (onward (aheadOf es)) (cond t (suc (aheadOf es)) 0))) (s || cond p (solidOf es) (t || d))
+    go m q true t ih = (ih m q a s .0 ∙ further-space a n m (aheadOf es) q, ih m q a s .1)
+    go m q false true ih = (ih m q m true .0 ∙ further-text n m (aheadOf es) q, ih m q m true .1 ∙ sym (or-true s))
+    go m q false false ih = (ap (λ (l : Look). l .ahead) (looks-off n a (s || d) es), ap (λ (l : Look). l .solid) (looks-off n a (s || d) es))
+
+-- ## A step is a turn
+
+or-none : (b c : Bool) → b || c ≡ false → (b ≡ false) × (c ≡ false)
+or-none true c h = absurd (true≢false h)
+or-none false c h = (refl, h)
+
+and-three : (b c d : Bool) → b && c ≡ false → b && (c && d) ≡ false
+and-three true c d h = rw h
+and-three false c d h = refl
+
+-- where no look ahead is asked for, the turn does not depend on it
+unasked : (m : Mode) (this next : Event) (a b : ℕ) (s t : Bool) → asks m this ≡ false → turnOf m this next a s ≡ turnOf m this next b t
+unfolding pieceTurn
+unasked m this next a b s t h = go (m .phase) refl
+  where
+    piece : (m .seen && eqb (this .name) GfmTableCellDivider ≡ false) × (m .waits && isTextName (this .name) ≡ false) → pieceTurn m this a s ≡ pieceTurn m this b t
+    piece (x, y) = rw (and-three (m .seen) (eqb (this .name) GfmTableCellDivider) s x, and-three (m .seen) (eqb (this .name) GfmTableCellDivider) t x, y)
+
+    go : (p : Phase) → m .phase ≡ p → turnIn p m this next a s ≡ turnIn p m this next b t
+    go Out e = refl
+    go Head e = refl
+    go Row e = refl
+    go Cell e = refl
+    go Piece e = piece (or-none (m .seen && eqb (this .name) GfmTableCellDivider) (m .waits && isTextName (this .name)) (rw (ap isPiece e) at h))
+    go Exit e = refl
+    go Text e = refl
+    go Copy e = refl
+    go Leave e = refl
+    go RowExit e = refl
+    go HeadExit e = refl
+    go End e = refl
+    go EndExit e = refl
+    go Open e = refl
+    go BodyLeave e = refl
+    go TableLeave e = refl
+
+turn-same : (m : Mode) {x y z w : Event} {a b : ℕ} {s t : Bool} → x ≡ y → z ≡ w → a ≡ b → s ≡ t → turnOf m x z a s ≡ turnOf m y w b t
+turn-same m p q r u = λ i. turnOf m (p i) (q i) (r i) (u i)
+
+module _ (es : List Event) (fits : length es ≤ most) where
+  next-at : (i : ℕ) → eventAt es (plusOf i 1) ≡ first (rest (drop i es))
+  next-at i = event-at es (plusOf i 1) ∙ ap first (drop-plus es i 1 fits ∙ drop-one (drop i es))
+
+  looks-at : (i : ℕ) → Sees (drop (plusOf i 2) es) lookStart (suc (aheadOf (rest (rest (drop i es))))) (solidOf (rest (rest (drop i es))))
+  looks-at i =
+      let fits-too : 1 + length (rest (rest (drop i es))) ≤ most = rw (← drop-two (drop i es)) (simp length-drop (omega arith)) in
+      let seen = looks (rest (rest (drop i es))) 1 1 false fits-too in
+      rw (drop-plus es i 2 fits ∙ drop-two (drop i es)) (seen .0 ∙ further-start (aheadOf (rest (rest (drop i es)))), seen .1)
+
+  turn-is : (c : Cursor) → turnHere es c ≡ turnAt (c .mode) (drop (c .at) es)
+  turn-is c = go (asks (c .mode) (eventAt es (c .at))) refl
+    where
+      look : Bool → Look
+      look b = cond b (lookAll lookStart (drop (plusOf (c .at) 2) es)) lookStart
+
+      there : (a : ℕ) (s : Bool) → a ≡ suc (aheadOf (rest (rest (drop (c .at) es)))) → s ≡ solidOf (rest (rest (drop (c .at) es))) → turnOf (c .mode) (eventAt es (c .at)) (eventAt es (plusOf (c .at) 1)) a s ≡ turnAt (c .mode) (drop (c .at) es)
+      there a s p q = turn-same (c .mode) (event-at es (c .at)) (next-at (c .at)) p q
+
+      go : (b : Bool) → asks (c .mode) (eventAt es (c .at)) ≡ b → turnOf (c .mode) (eventAt es (c .at)) (eventAt es (plusOf (c .at) 1)) (look b .ahead) (look b .solid) ≡ turnAt (c .mode) (drop (c .at) es)
+      go true e = there _ _ (looks-at (c .at) .0) (looks-at (c .at) .1)
+      go false e = unasked (c .mode) (eventAt es (c .at)) (eventAt es (plusOf (c .at) 1)) 1 _ false _ e ∙ there _ _ refl refl
+
+  -- a cursor stands at a mode and a place of the list
+  pub record Stands (c : Cursor) (m : Mode) (l : List Event) : Type 0 where
+    pub mode : c .mode ≡ m
+    pub place : drop (c .at) es ≡ l
+
+  turns : {c : Cursor} {m : Mode} {l : List Event} → Stands c m l → turnHere es c ≡ turnAt m l
+  turns {c} s = turn-is c ∙ (λ i. turnAt (s .mode i) (s .place i))
+
+  moves-on : {c : Cursor} {m : Mode} {l : List Event} → Stands c m l → Stands (moves c (turnAt m l)) (turnAt m l .mode) (drop (turnAt m l .by) l)
+  moves-on {c} {m} {l} s = record { mode = refl; place = drop-plus es (c .at) (turnAt m l .by) fits ∙ ap (λ (k : List Event). drop (turnAt m l .by) k) (s .place) }
+
+  -- the steps give what the stream gives
+  pub steps : (n : ℕ) {c : Cursor} {m : Mode} {l : List Event} → Stands c m l → stepped es n c ≡ stream n m l
+  unfolding stepped stream resolveStep
+  steps zero s = refl
+  steps (suc n) {c} {m} {l} s =
+      ap (λ (t : Turn). t .event ∷ stepped es n (moves c t)) (turns s) ∙ ap (λ (k : List Event). turnAt m l .event ∷ k) (steps n (moves-on s))
+
+  -- ## The end, and the number of records given
+
+  after-step : (n : ℕ) {c : Cursor} {m : Mode} {l : List Event} → Stands c m l → cursorAfter es (suc n) c ≡ cursorAfter es n (moves c (turnAt m l))
+  unfolding cursorAfter resolveStep
+  after-step n {c} s = ap (λ (t : Turn). cursorAfter es n (moves c t)) (turns s)
+
+  -- n steps after the end
+  idles : (n : ℕ) {c : Cursor} → Stands c (plain Out Header) [] → (finished es (cursorAfter es n c) ≡ true) × (cursorAfter es n c .given ≡ c .given)
+  unfolding cursorAfter resolveStep
+  idles zero s = (ap (λ (t : Turn). eqb (t .gave) 0) (turns s), refl)
+  idles (suc n) {c} s = rw (after-step n s) (idles n (moves-on s) .0, idles n (moves-on s) .1 ∙ plus-none (c .given))
+
+  -- n steps where some records are to be given
+  counts : (n : ℕ) {m : Mode} {l out : List Event} → Gives m l out (plain Out Header) [] → {c : Cursor} → Stands c m l → c .given + n ≤ most
+      → (finished es (cursorAfter es n c) ≡ leb (length out) n) × (length out ≤ n → cursorAfter es n c .given ≡ c .given + length out)
+  unfolding cursorAfter resolveStep
+  counts n none s h = (idles n s .0 ∙ sym (leb·zero n), λ k. idles n s .1 ∙ omega arith)
+  counts zero (more {out = out} e g) s h = (ap (λ (t : Turn). eqb (t .gave) 0) (turns s) ∙ rw e (sym (leb·suc-zero (length out))), λ k. absurd (omega arith))
+  counts (suc n) (more {m = m} {es = l} {out = out} e g) {c} s h =
+      let one : plusOf (c .given) (turnAt m l .gave) ≡ c .given + 1 = rw e (plus-fits (c .given) 1 (omega arith)) in
+      let ih = counts n g (moves-on s) (rw one (omega arith)) in
+      rw (after-step n s) (ih .0 ∙ sym (leb·suc-suc (length out) n), λ k. ih .1 (omega arith) ∙ rw one (omega arith))
+
+-- ## The resolver's stream: for a list of raw tables, what it gives, when it is done, and how many records it gave
+pub record Resolves (es out : List Event) (n : ℕ) : Type 0 where
+  pub records : stepped es n (cursorAt 0) ≡ slotsOf n out
+  pub done : finished es (cursorAfter es n (cursorAt 0)) ≡ leb (length out) n
+  pub count : length out ≤ n → cursorAfter es n (cursorAt 0) .given ≡ length out
+
+pub resolves : {ts : List Table} → AreTables ts → length (rawTables ts) ≤ most → (n : ℕ) → n ≤ most → Resolves (rawTables ts) (resolvedTables ts) n
+resolves {ts} h fits n small =
+    let s : Stands (rawTables ts) fits (cursorAt 0) (plain Out Header) (rawTables ts) = record { mode = refl; place = refl } in
+    let c = counts (rawTables ts) fits n (tables-give h) s (omega arith) in
+    record { records = steps (rawTables ts) fits n s ∙ streams n h; done = c .0; count = λ k. c .1 k ∙ omega arith }

@@ -1,0 +1,13 @@
+-- `resolve_look::asks` meets its contract.
+-- Assumes nothing.
+use borrow.Author.Needs.{needs}
+use Rattle.edit_map.proofs.resolve_look.asks.Statement.{statement}
+use Rattle.edit_map.proofs.resolve_look.asks.Tie as tie
+
+pub asks-spec : {M : Type 1} → statement M
+asks-spec =
+    tie.close
+    (tie.spec
+    (λ c κs. search needs) (λ c κs. search needs) (λ c κs. search needs) (λ c κs. search needs) (λ c κs. search needs)
+    (λ c κs. search needs)
+    (λ c. rw (c .both3 .ensures, c .before .either .ensures, c .before .before .both2 .ensures, c .before .before .before .is-text-name .ensures, c .before .before .before .before .both .ensures, c .before .before .before .before .before .before .is-piece .ensures)))

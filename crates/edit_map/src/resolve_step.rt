@@ -1,0 +1,56 @@
+// The resolver as a stream of result records.
+use crate::resolve_base::Part;
+use crate::resolve_base::plus;
+use crate::resolve_look::Look;
+use crate::resolve_turn::Mode;
+use crate::resolve_turn::Phase;
+use crate::resolve_turn::plainly;
+use crate::resolve_turn::turn_of;
+use tokenizer::event::Event;
+ghost use mathlib.Core.Path.{_≡_};
+ghost use Rattle.edit_map.specs.Cursors.{resolveStep, cursorAt};
+
+// Where the stream stands in the list, and how many records it gave.
+pub struct Cursor {
+    pub mode: Mode,
+    pub at: usize,
+    pub given: usize,
+}
+
+// One record, the cursor after it, and 1, or a blank one and 0 past the last.
+pub struct Stepped {
+    pub event: Event,
+    pub next: Cursor,
+    pub gave: usize,
+}
+
+// Before the table at a place.
+pub fn cursor_at(at: usize) -> Cursor
+    ensures { λ r. ⌜ r ≡ cursorAt at ⌝ }
+{
+    let m = plainly(Phase::Out, Part::Header);
+    Cursor {
+        mode: m,
+        at: at,
+        given: 0,
+    }
+}
+
+// One step of the stream.
+pub fn resolve_step(c: Cursor, this: Event, next: Event, look: Look) -> Stepped
+    ensures { λ r. ⌜ r ≡ resolveStep c this next look ⌝ }
+{
+    let m = c.mode;
+    let t = turn_of(m, this, next, look.ahead, look.solid);
+    let e = t.event;
+    let then = t.mode;
+    Stepped {
+        event: e,
+        next: Cursor {
+            mode: then,
+            at: plus(c.at, t.by),
+            given: plus(c.given, t.gave),
+        },
+        gave: t.gave,
+    }
+}

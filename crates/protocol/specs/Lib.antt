@@ -1,0 +1,2 @@
+-- What the contracts of the protocol's words cite.
+pub mod Words

@@ -1,0 +1,4 @@
+// The line protocol of the kept answers (harness/README.md): words of a request are read, and an answer is written to standard output.
+
+pub mod print;
+pub mod words;

@@ -1,0 +1,109 @@
+-- The body rows after a line of a table, one line at a time.
+-- Assumes nothing.
+use Prim.Native.Nat.{ℕ, _+_, _*_}
+use mathlib.Core.Path.{_≡_, refl, ap, sym, _∙_}
+use mathlib.Core.Bool.{Bool, true, false, cond}
+use mathlib.Core.List.{List, [], _∷_}
+use native.Mathlib.Omega.{arith}
+use lib.Dec.{eqb}
+use lib.ListN.{length, drop}
+use Rattle.tokenizer.specs.declared.event.Point.{Point}
+use Rattle.tokenizer.specs.Bytes.{kindOf}
+use Rattle.tokenizer.specs.Points.{past, nextLine}
+use Rattle.tokenizer.specs.Lines.{endAt, blank}
+use Rattle.tokenizer.specs.Places.{Placed}
+use Rattle.tokenizer.specs.Moves.{restOf, lineAt, after}
+use Rattle.tokenizer.proofs.Ahead.{past-none}
+use Rattle.tokenizer.proofs.Ends.{end-past, stop-rest}
+use Rattle.tokenizer.proofs.Places.{linesFrom, linesPast, lines-from}
+use Rattle.gfm_table.specs.Rows.{Passed, rowPieces, rawRow}
+use Rattle.gfm_table.specs.Raw.{lineEndAt, textRow}
+use Rattle.gfm_table.proofs.Plans.{row-length}
+use Rattle.edit_map.specs.Tables.{BodyRow, rawBody}
+use Rattle.sheet.specs.Walk.{lineEnd, bodyRows, heads, rows}
+use Rattle.sheet.specs.From.{here}
+use Rattle.sheet.specs.Counting.{bodyEvents}
+use Rattle.sheet.proofs.From.{past-last, past-more, heads-at-blank}
+use Rattle.sheet.proofs.Bounds.{body-parts}
+
+-- body rows are told by the line end before them
+rows-same : (l m : Placed) (ls : List Placed) → lineEnd l ≡ lineEnd m → bodyRows kindOf l ls ≡ bodyRows kindOf m ls
+unfolding bodyRows
+rows-same l m [] e = refl
+rows-same l m (k ∷ ls) e = ap (λ (x : Passed). cond (blank kindOf (k .line .body)) [] (record { before = x; row = textRow kindOf (k .at) (k .line .body) } ∷ bodyRows kindOf k ls)) e
+
+module _ (s : List ℕ) (p : Point) where
+  -- ## The end of a line
+
+  abbrev stop : Point
+  stop = past p (restOf s p)
+
+  stop-stop : past stop (restOf s stop) ≡ stop
+  stop-stop = ap (past stop) (stop-rest s p) ∙ past-none stop refl
+
+  stop-end : lineAt s stop .end ≡ lineAt s p .end
+  stop-end = sym (end-past s stop) ∙ ap (λ (q : Point). endAt (drop (q .index) s)) stop-stop ∙ end-past s p
+
+  stop-after : after s stop ≡ after s p
+  stop-after = ap (λ (q : Point). nextLine q (lineAt s stop .end)) stop-stop ∙ ap (nextLine stop) stop-end
+
+  -- the lines after a line are those after its end
+  pub stop-past : linesPast s stop ≡ linesPast s p
+  stop-past = ap (λ (n : ℕ). cond (eqb n 0) [] (linesFrom s (after s stop))) stop-end ∙ ap (λ (q : Point). cond (eqb (lineAt s p .end) 0) [] (linesFrom s q)) stop-after
+
+  stop-line : lineEnd (here s stop) ≡ lineEnd (here s p)
+  stop-line = ap (λ (q : Point). lineEndAt q (lineAt s stop .end)) stop-stop ∙ ap (lineEndAt stop) stop-end
+
+  -- and so are the body rows
+  pub body-stop : bodyEvents s stop ≡ bodyEvents s p
+  body-stop =
+      ap (λ (ls : List Placed). length (rawBody (bodyRows kindOf (here s stop) ls))) stop-past
+      ∙ ap (λ (b : List BodyRow). length (rawBody b)) (rows-same (here s stop) (here s p) (linesPast s p) stop-line)
+
+  -- ## No line is next, or a blank one, or a row
+
+  pub body-last : lineAt s p .end ≡ 0 → bodyEvents s p ≡ 0
+  unfolding bodyRows rawBody
+  body-last e = rw (past-last s p e)
+
+  pub rows-last : lineAt s p .end ≡ 0 → (on : Bool) → rows kindOf on (linesPast s p) ≡ []
+  unfolding heads
+  rows-last e on = rw (past-last s p e)
+
+  module _ (z : lineAt s p .end ≡ 0 → ⊥) where
+    next-lines : linesPast s p ≡ here s (after s p) ∷ linesPast s (after s p)
+    next-lines = past-more s p z ∙ lines-from s (after s p)
+
+    module _ (b : blank kindOf (restOf s (after s p)) ≡ true) where
+      pub body-blank : bodyEvents s p ≡ 0
+      unfolding bodyRows rawBody
+      body-blank = ap (λ (ls : List Placed). length (rawBody (bodyRows kindOf (here s p) ls))) next-lines ∙ rw b
+
+      pub rows-blank : (on : Bool) → rows kindOf on (linesPast s p) ≡ heads kindOf on (linesFrom s (after s p))
+      unfolding heads
+      rows-blank on = ap (rows kindOf on) next-lines ∙ rw b (sym (heads-at-blank s (after s p) on b))
+
+    module _ (b : blank kindOf (restOf s (after s p)) ≡ false) where
+      body-row : bodyEvents s p ≡ 4 + 2 * length (rowPieces kindOf false (restOf s (after s p))) + bodyEvents s (after s p)
+      unfolding bodyRows rawBody
+      body-row =
+          let q = after s p in
+          ap (λ (ls : List Placed). length (rawBody (bodyRows kindOf (here s p) ls))) next-lines
+          ∙ rw b
+          (omega (
+            arith,
+            row-length 7 (rowPieces kindOf false) q (restOf s q),
+            body-parts (lineEnd (here s p) .entry) (lineEnd (here s p) .exit) (rawRow (textRow kindOf q (restOf s q))) (rawBody (bodyRows kindOf (here s q) (linesPast s q))),
+          ))
+
+      pub rows-row : (on : Bool) → rows kindOf on (linesPast s p) ≡ rows kindOf on (linesPast s (after s p))
+      unfolding heads
+      rows-row on = ap (rows kindOf on) next-lines ∙ rw b
+
+-- after a row is read, at its end
+module _ (s : List ℕ) (p q : Point) (e : q ≡ past (after s p) (restOf s (after s p))) (z : lineAt s p .end ≡ 0 → ⊥) (b : blank kindOf (restOf s (after s p)) ≡ false) where
+  pub body-on : bodyEvents s p ≡ 4 + 2 * length (rowPieces kindOf false (restOf s (after s p))) + bodyEvents s q
+  body-on = omega (arith, body-row s p z b, body-stop s (after s p), ap (bodyEvents s) e)
+
+  pub rows-on : (on : Bool) → rows kindOf on (linesPast s q) ≡ rows kindOf on (linesPast s p)
+  rows-on on = ap (λ (k : Point). rows kindOf on (linesPast s k)) e ∙ ap (rows kindOf on) (stop-past s (after s p)) ∙ sym (rows-row s p z b on)

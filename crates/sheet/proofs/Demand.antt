@@ -1,0 +1,22 @@
+-- Demand 3, for every table of kinds.
+-- Assumes nothing.
+use Prim.Native.Nat.{ℕ}
+use Rattle.sheet.specs.Demands.{Demand}
+use Rattle.sheet.proofs.Beyond.{beyond}
+use Rattle.sheet.proofs.Exchange.{exchange}
+use Rattle.sheet.proofs.Counts.{counted}
+use Rattle.sheet.proofs.Pieces.{covered}
+use Rattle.sheet.proofs.LineStarts.{starts}
+use Rattle.sheet.proofs.Told.{told-aligned}
+use Rattle.sheet.proofs.Walked.{walked}
+
+pub demand : (kind : ℕ → ℕ) → Demand kind
+demand kind =
+    record {
+      beyond = beyond kind;
+      exchange = exchange kind;
+      inEach = λ on s f m. record { columns = counted kind on s f m; pieces = covered kind on s f m };
+      starts = starts;
+      told = told-aligned kind;
+      walked = walked kind;
+    }

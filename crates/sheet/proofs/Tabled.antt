@@ -1,0 +1,139 @@
+-- The tables of a sheet are raw tables, so that resolving accepts them and gives their result events.
+-- Assumes nothing.
+use Prim.Native.Nat.{ℕ}
+use mathlib.Core.Path.{_≡_, refl, ap, sym, _∙_}
+use mathlib.Core.Bool.{Bool, true, false, cond, _&&_, _||_, not, true≢false}
+use mathlib.Core.List.{List, [], _∷_, _++_}
+use native.Mathlib.Omega.{arith}
+use borrow.Author.Tests.{eqb-true, not-true}
+use lib.Dec.{eqb, leb}
+use lib.ListN.{length}
+use Rattle.tokenizer.specs.declared.event.Point.{Point}
+use Rattle.tokenizer.specs.declared.event.Event.{Event}
+use Rattle.tokenizer.specs.Bytes.{kindOf}
+use Rattle.tokenizer.specs.Points.{past}
+use Rattle.tokenizer.specs.Events.{GfmTableRow, GfmTableDelimiterRow}
+use Rattle.tokenizer.specs.Slots.{slotsOf}
+use Rattle.tokenizer.specs.Lines.{Line, unindented, blank}
+use Rattle.tokenizer.specs.Places.{Placed}
+use Rattle.gfm_table.specs.Heads.{permitted, loneDivider, solid, marked, headRefusal}
+use Rattle.gfm_table.specs.Rows.{rowPieces}
+use Rattle.gfm_table.specs.Raw.{textRow, delimiterRow}
+use Rattle.edit_map.specs.Tables.{Table, rawTable, resolvedTable, rawTables, resolvedTables}
+use Rattle.edit_map.specs.Raw.{rowPiece, delimiterPiece, IsRow, IsTable, AreRows, AreTables}
+use Rattle.edit_map.specs.Accept.{accepts}
+use Rattle.edit_map.specs.TablesOf.{resolvedList}
+use Rattle.edit_map.specs.declared.resolve.Resolved.{Resolved}
+use Rattle.edit_map.specs.declared.resolve.Resolved.the-variants.{Refused, Accepted}
+use Rattle.edit_map.specs.Answers.{resolveAnswer, resolveSlots}
+use Rattle.edit_map.proofs.RawRows.{text-row, delimiter-row}
+use Rattle.edit_map.proofs.Parse.{accepts-raw}
+use Rattle.edit_map.proofs.Resolving.{tables-of}
+use Rattle.sheet.proofs.From.{test as split}
+use Rattle.sheet.specs.Walk.{Found, lineEnd, bodyRows, tableOf, opens, found, heads, rows, tables, rawOf, resolvedOf}
+
+-- the tables alone
+unfoldable tablesIn : List Found → List Table
+tablesIn [] = []
+tablesIn (f ∷ fs) = f .table ∷ tablesIn fs
+
+raw-in : (fs : List Found) → rawOf fs ≡ rawTables (tablesIn fs)
+unfolding rawOf rawTables tablesIn
+raw-in [] = refl
+raw-in (f ∷ fs) = ap (λ (l : List Event). rawTable (f .table) ++ l) (raw-in fs)
+
+resolved-in : (fs : List Found) → resolvedOf fs ≡ resolvedTables (tablesIn fs)
+unfolding resolvedOf resolvedTables tablesIn
+resolved-in [] = refl
+resolved-in (f ∷ fs) = ap (λ (l : List Event). resolvedTable (f .table) ++ l) (resolved-in fs)
+
+-- ## Rows
+
+not-blank : (p : Point) (u : List ℕ) → blank kindOf u ≡ false → IsRow GfmTableRow rowPiece (textRow kindOf p u)
+unfolding unindented
+not-blank p [] e = absurd (true≢false e)
+not-blank p (b ∷ u) e = text-row kindOf p (past p (b ∷ u)) b u
+
+-- an empty line is no delimiter row
+none : (on : Bool) (l d : Line) → d .body ≡ [] → headRefusal kindOf on false l d ≡ 0 → ⊥
+unfolding marked
+none on l d f e =
+    go (permitted kindOf on (l .body)) (eqb (l .end) 0 || loneDivider (solid (rowPieces kindOf false (l .body)))) (permitted kindOf on []) _ (rw f at e)
+  where
+    go : (a b c : Bool) (n : ℕ) → _≡_ {A = ℕ} (cond (not a) 3 (cond b 4 (cond (not (c && false)) 6 n))) 0 → ⊥
+    go false b c n e = omega arith
+    go true true c n e = omega arith
+    go true false true n e = omega arith
+    go true false false n e = omega arith
+
+delimits : (on : Bool) (l d : Line) (p : Point) → headRefusal kindOf on false l d ≡ 0 → IsRow GfmTableDelimiterRow delimiterPiece (delimiterRow kindOf p (d .body))
+delimits on l d p e = go (d .body) refl
+  where
+    go : (u : List ℕ) → d .body ≡ u → IsRow GfmTableDelimiterRow delimiterPiece (delimiterRow kindOf p u)
+    go [] f = absurd (none on l d f e)
+    go (b ∷ u) f = delimiter-row kindOf p (past p (b ∷ u)) b u
+
+rows-are : (l : Placed) (ls : List Placed) → AreRows (bodyRows kindOf l ls)
+unfolding bodyRows
+rows-are l [] = AreRows.none
+rows-are l (m ∷ ls) = go (blank kindOf (m .line .body)) refl (rows-are m ls)
+  where
+    go : (t : Bool) → blank kindOf (m .line .body) ≡ t → AreRows (bodyRows kindOf m ls) → AreRows (cond t [] (record { before = lineEnd l; row = textRow kindOf (m .at) (m .line .body) } ∷ bodyRows kindOf m ls))
+    go true e r = AreRows.none
+    go false e r = AreRows.row (record { enter = refl; leave = refl }) (not-blank (m .at) (m .line .body) e) r
+
+-- ## Tables
+
+and-left : (a b : Bool) → a && b ≡ true → a ≡ true
+and-left true b e = refl
+and-left false b e = e
+
+and-right : (a b : Bool) → a && b ≡ true → b ≡ true
+and-right true b e = e
+and-right false b e = absurd (true≢false (sym e))
+
+is-table : (on : Bool) (l d : Placed) (ls : List Placed) → opens kindOf on l d ≡ true → IsTable (tableOf kindOf l d ls)
+is-table on l d ls o =
+    let b = and-left (not (blank kindOf (l .line .body))) (eqb (headRefusal kindOf on false (l .line) (d .line)) 0) o in
+    let r = eqb-true (headRefusal kindOf on false (l .line) (d .line)) 0 (and-right (not (blank kindOf (l .line .body))) (eqb (headRefusal kindOf on false (l .line) (d .line)) 0) o) in
+    record {
+      enter = refl;
+      head = not-blank (l .at) (l .line .body) (not-true (blank kindOf (l .line .body)) b);
+      between = record { enter = refl; leave = refl };
+      delimiter = delimits on (l .line) (d .line) (d .at) r;
+      leave = refl;
+      body = rows-are d ls;
+    }
+
+module _ (on : Bool) where
+  mutual
+    unfolding heads tablesIn
+
+    heads-are : (ls : List Placed) → AreTables (tablesIn (heads kindOf on ls))
+    heads-are [] = AreTables.none
+    heads-are (l ∷ []) = AreTables.none
+    heads-are (l ∷ d ∷ ls) = split (opens kindOf on l d) (λ e. rw e (AreTables.table (is-table on l d ls e) (rows-on ls))) (λ e. rw e (heads-are (d ∷ ls)))
+
+    rows-on : (ls : List Placed) → AreTables (tablesIn (rows kindOf on ls))
+    rows-on [] = AreTables.none
+    rows-on (l ∷ ls) = split (blank kindOf (l .line .body)) (λ e. rw e (heads-are ls)) (λ e. rw e (rows-on ls))
+
+  -- ## What resolving answers
+
+  module _ (s : List ℕ) where
+    abbrev fs : List Found
+    fs = tables kindOf on s
+
+    pub raw-accepted : accepts (rawOf fs) ≡ true
+    raw-accepted = ap accepts (raw-in fs) ∙ accepts-raw (heads-are _)
+
+    pub raw-resolved : resolvedList (rawOf fs) ≡ resolvedOf fs
+    raw-resolved = ap resolvedList (raw-in fs) ∙ ap resolvedTables (tables-of (heads-are _)) ∙ sym (resolved-in fs)
+
+    pub answer-is : (m : ℕ) → resolveAnswer (rawOf fs) m ≡ cond (leb (length (resolvedOf fs)) m) (Accepted (length (resolvedOf fs))) (Refused 12)
+    unfolding resolveAnswer
+    answer-is m = rw (raw-accepted, raw-resolved)
+
+    pub slots-are : (m : ℕ) → resolveSlots (rawOf fs) m ≡ slotsOf m (cond (leb (length (resolvedOf fs)) m) (resolvedOf fs) [])
+    unfolding resolveSlots
+    slots-are m = rw (raw-accepted, raw-resolved)

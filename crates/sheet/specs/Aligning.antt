@@ -1,0 +1,64 @@
+-- Alignments that are written to lent slots.
+use Prim.Native.Nat.{ℕ, _+_, _-_}
+use mathlib.Core.Path.{_≡_}
+use mathlib.Core.List.{List, [], _∷_, _++_}
+use mathlib.Core.Bool.{Bool, true, cond, _&&_}
+use lib.Dec.{eqb, leb}
+use lib.ListN.{length, take, drop, replicate}
+use Rattle.tokenizer.specs.Bytes.{kindOf}
+use Rattle.tokenizer.specs.Lines.{lineBody, isEmpty}
+use Rattle.gfm_table.specs.Heads.{stretches, trimmed, untrailed, alignment, alignments}
+use Rattle.gfm_table.specs.Delimiters.{stretch, written}
+use Rattle.sheet.specs.declared.align.Ends.{Ends}
+use Rattle.sheet.specs.declared.align.Mark.{Mark}
+
+-- what is left of a line at a place
+abbrev pub lineFrom : List ℕ → ℕ → List ℕ
+lineFrom s i = lineBody (drop i s)
+
+-- the alignments of the stretches from a place on, none for a last one that is empty
+abbrev pub alignsFrom : List ℕ → ℕ → List ℕ
+alignsFrom s i = alignments kindOf (untrailed (trimmed kindOf (stretches kindOf (lineFrom s i))))
+
+-- ## The ends of a stretch: the kinds of its first and last byte that is no whitespace, and where it ends
+
+-- with one more byte of the kind k
+abbrev pub endsOver : Ends → ℕ → Ends
+endsOver e k = record { first = cond (eqb (e .first) 1) k (e .first); last = cond (eqb k 1) (e .last) k; end = e .end + 1 }
+
+-- with more bytes
+unfoldable pub endsPast : Ends → List ℕ → Ends
+endsPast e [] = e
+endsPast e (b ∷ u) = endsPast (endsOver e (kindOf b)) u
+
+-- those of the first stretch of u, which starts at i
+abbrev pub scanned : ℕ → List ℕ → Ends
+scanned i u = endsPast (record { first = 1; last = 1; end = i }) (stretch kindOf u)
+
+-- the alignment that the kinds of a value's first and last byte tell
+abbrev pub alignBy : ℕ → ℕ → ℕ
+alignBy f l = cond (eqb f 6) (cond (eqb l 6) 4 2) (cond (eqb l 6) 3 1)
+
+-- the first stretch of a line, from a place on
+pub record Marked (u : List ℕ) (i : ℕ) (m : Mark) : Type 0 where
+  pub end : m .end ≡ i + length (stretch kindOf u)
+  pub empty : m .empty ≡ isEmpty (written u)
+  pub align : m .align ≡ alignment kindOf (written u)
+
+-- ## Slots
+
+-- the slots `out` with xs from the place n on
+abbrev pub filled : ℕ → List ℕ → List ℕ → List ℕ
+filled n xs out = take n out ++ (xs ++ drop (n + length xs) out)
+
+-- n zeros
+abbrev pub zeros : ℕ → List ℕ
+zeros n = replicate n 0
+
+-- some alignments and then zeros where they are wanted and fit, otherwise zeros
+abbrev pub alignedInto : Bool → List ℕ → ℕ → List ℕ
+alignedInto go xs n = cond (go && leb (length xs) n) (xs ++ zeros (n - length xs)) (zeros n)
+
+-- whether some alignments fit the slots `out`, and if so that they are written to the first of them
+abbrev pub Written : List ℕ → List ℕ → Bool → List ℕ → Type 0
+Written xs out fit slots = (fit ≡ leb (length xs) (length out)) × (fit ≡ true → slots ≡ filled 0 xs out)

@@ -1,0 +1,100 @@
+-- What `sheet` answers, and what it leaves in the slots.
+use Prim.Native.Nat.{ℕ}
+use mathlib.Core.List.{List, []}
+use mathlib.Core.Bool.{Bool, true, false, cond}
+use lib.Dec.{eqb, leb, ltb}
+use lib.ListN.{length}
+use Rattle.tokenizer.specs.declared.event.Event.{Event}
+use Rattle.tokenizer.specs.Bytes.{kindOf}
+use Rattle.tokenizer.specs.Points.{start}
+use Rattle.tokenizer.specs.Slots.{slotsOf}
+use Rattle.gfm_table.specs.Calls.{orElse, slotRefusal}
+use Rattle.edit_map.specs.declared.resolve.Resolved.{Resolved}
+use Rattle.edit_map.specs.declared.resolve.Resolved.the-variants as resolve
+use Rattle.sheet.specs.declared.stream.Walk.the-variants.{Seek, Done}
+use Rattle.sheet.specs.declared.calls.Sheet.{Sheet}
+use Rattle.sheet.specs.declared.calls.Sheet.the-variants.{Refused, Accepted}
+use Rattle.sheet.specs.declared.calls.Plan.{Plan}
+use Rattle.sheet.specs.declared.calls.Verdict.{Verdict}
+use Rattle.sheet.specs.declared.count.Counts.{Counts}
+use Rattle.sheet.specs.Walk.{Found, tables, rawOf, resolvedOf, alignedOf}
+use Rattle.sheet.specs.Counting.{countsOf}
+use Rattle.sheet.specs.Aligning.{alignedInto}
+
+-- ## Questions
+
+-- question 1
+abbrev pub longRefusal : List ℕ → ℕ
+longRefusal s = cond (ltb 65536 (length s)) 1 0
+
+-- questions 12 and 14, of results and of alignments
+abbrev pub resultRefusal : ℕ → List Event → ℕ
+resultRefusal n xs = cond (leb (length xs) n) 0 12
+
+abbrev pub alignRefusal : ℕ → List ℕ → ℕ
+alignRefusal n xs = cond (leb (length xs) n) 0 14
+
+-- ## The answer, with n raw slots, m result slots and k alignment slots
+
+module _ (s : List ℕ) (on : Bool) (n m k : ℕ) where
+  abbrev pub found : List Found
+  found = tables kindOf on s
+
+  -- the number of the first question that a sheet gets a "no" to, or 0
+  abbrev pub sheetNumber : ℕ
+  sheetNumber =
+      orElse (longRefusal s)
+      (orElse (slotRefusal n (rawOf found))
+      (orElse (resultRefusal m (resolvedOf found)) (alignRefusal k (alignedOf found))))
+
+  -- accepted: the numbers of tables, raw events, result events and alignments
+  abbrev pub sheetOf : Sheet
+  sheetOf =
+      cond (eqb sheetNumber 0)
+      (Accepted (length found) (length (rawOf found)) (length (resolvedOf found)) (length (alignedOf found)))
+      (Refused sheetNumber)
+
+  -- the slots: what was found and then blanks, or blanks
+  abbrev pub sheetRaw : List Event
+  sheetRaw = slotsOf n (cond (eqb sheetNumber 0) (rawOf found) [])
+
+  abbrev pub sheetResults : List Event
+  sheetResults = slotsOf m (cond (eqb sheetNumber 0) (resolvedOf found) [])
+
+  abbrev pub sheetAligned : List ℕ
+  sheetAligned = alignedInto (eqb sheetNumber 0) (alignedOf found) k
+
+-- ## The way there
+
+abbrev pub noCounts : Counts
+noCounts = record { tables = 0; raw = 0; aligned = 0 }
+
+abbrev pub noPlan : ℕ → Plan
+noPlan q = record { refusal = q; counts = noCounts; walk = Done }
+
+-- questions 1 and 9, the counts, and where the raw events come from
+unfoldable pub planOf : List ℕ → Bool → ℕ → Plan
+planOf s on n =
+    cond (ltb 65536 (length s)) (noPlan 1)
+    (cond (ltb n (length (rawOf (tables kindOf on s)))) (noPlan 9)
+    (record { refusal = 0; counts = countsOf (tables kindOf on s); walk = Seek start }))
+
+abbrev pub noVerdict : ℕ → Verdict
+noVerdict q = record { answer = Refused q; go = false; raw = 0; results = 0 }
+
+-- question 14, of a plan and r result events, with n, m and k slots
+abbrev pub acceptOf : Counts → ℕ → ℕ → ℕ → ℕ → Verdict
+acceptOf c r n m k =
+    cond (leb (c .aligned) k) (record { answer = Accepted (c .tables) (c .raw) r (c .aligned); go = true; raw = n; results = m }) (noVerdict 14)
+
+abbrev pub resolvedAs : Counts → Resolved → ℕ → ℕ → ℕ → Verdict
+resolvedAs c (resolve.Refused q) n m k = noVerdict q
+resolvedAs c (resolve.Accepted r) n m k = acceptOf c r n m k
+
+-- the answer, whether alignments are wanted, and how many slots stay as they are
+unfoldable pub judgeOf : Plan → Resolved → ℕ → ℕ → ℕ → Verdict
+judgeOf p r n m k = cond (eqb (p .refusal) 0) (resolvedAs (p .counts) r n m k) (noVerdict (p .refusal))
+
+-- the lesser of two numbers
+abbrev pub leastOf : ℕ → ℕ → ℕ
+leastOf a b = cond (ltb a b) a b

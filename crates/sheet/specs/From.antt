@@ -1,0 +1,57 @@
+-- The next head from a line on, and the end of a table's body.
+use Prim.Native.Nat.{ℕ, _≤_, _<_}
+use mathlib.Core.Path.{_≡_}
+use mathlib.Core.List.{List, [], _∷_}
+use mathlib.Core.Bool.{Bool, true}
+use Rattle.tokenizer.specs.declared.event.Point.{Point}
+use Rattle.tokenizer.specs.declared.lines.Further.{Further}
+use Rattle.tokenizer.specs.declared.lines.Further.the-variants.{More, Last}
+use Rattle.tokenizer.specs.Bytes.{kindOf}
+use Rattle.tokenizer.specs.Places.{Placed}
+use Rattle.tokenizer.specs.Moves.{lineAt, after, Inside}
+use Rattle.tokenizer.proofs.Places.{linesFrom, linesPast}
+use Rattle.gfm_table.specs.declared.heads.Opened.{Opened}
+use Rattle.gfm_table.specs.Answers.{openedAt}
+use Rattle.sheet.specs.declared.seek.Next.{Next}
+use Rattle.sheet.specs.declared.seek.Next.the-variants.{Head, Nothing}
+use Rattle.sheet.specs.Walk.{Found, opens, found, heads, rows}
+
+-- the first point of a line
+pub record AtLine (s : List ℕ) (p : Point) : Type 0 where
+  pub inside : Inside s p
+  pub first : p .column ≡ 1
+
+-- the line that starts at a point
+abbrev pub here : List ℕ → Point → Placed
+here s p = record { at = p; line = lineAt s p }
+
+-- the tables from the line p on begin with the one that o opens at the line q
+pub record Opens (s : List ℕ) (on : Bool) (p q : Point) (o : Opened) : Type 0 where
+  pub at : AtLine s q
+  pub onward : p .index ≤ q .index
+  pub ended : lineAt s q .end ≡ 0 → ⊥
+  pub parts : o ≡ openedAt s q
+  pub opened : opens kindOf on (here s q) (here s (after s q)) ≡ true
+  pub tables :
+      heads kindOf on (linesFrom s p)
+      ≡ found kindOf on (here s q) (here s (after s q)) (linesPast s (after s q)) ∷ rows kindOf on (linesPast s (after s q))
+
+-- the first head from a line on, or that there is none
+abbrev pub Finds : List ℕ → Bool → Point → Next → Type 0
+Finds s on p (Head q o) = Opens s on p q o
+Finds s on p Nothing = heads kindOf on (linesFrom s p) ≡ []
+
+-- the tables from a line on, if there is one
+abbrev pub tablesAt : List ℕ → Bool → Further → List Found
+tablesAt s on (More q) = heads kindOf on (linesFrom s q)
+tablesAt s on Last = []
+
+-- a line further on, if there is one
+abbrev pub FurtherOn : List ℕ → Point → Further → Type 0
+FurtherOn s p (More q) = AtLine s q × (p .index < q .index)
+FurtherOn s p Last = 0 ≤ 0
+
+-- the body rows after the line of a point are passed, and the tables behind them come from the line that is next
+pub record Onward (s : List ℕ) (p : Point) (next : Further) : Type 0 where
+  pub tables : (on : Bool) → rows kindOf on (linesPast s p) ≡ tablesAt s on next
+  pub further : FurtherOn s p next

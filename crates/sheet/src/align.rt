@@ -1,0 +1,212 @@
+// The alignments of a sheet's tables, written to lent slots.
+use crate::seek::Next;
+use crate::seek::body_end;
+use crate::seek::next_head;
+use tokenizer::event::Point;
+use tokenizer::lines::Further;
+use tokenizer::moves::kind_at;
+ghost use mathlib.Core.Path.{_≡_};
+ghost use mathlib.Core.Bool.{cond};
+ghost use Prim.Native.Nat.{_≤_, _<_};
+ghost use lib.Dec.{eqb};
+ghost use lib.ListN.{length};
+ghost use Rattle.tokenizer.specs.Bytes.{kindOf};
+ghost use Rattle.tokenizer.specs.Moves.{restOf, Inside};
+ghost use Rattle.gfm_table.specs.Heads.{alignments, values};
+ghost use Rattle.sheet.specs.Walk.{tables, alignedOf};
+ghost use Rattle.sheet.specs.Aligning.{lineFrom, alignsFrom, endsOver, scanned, alignBy, filled, zeros, alignedInto, Marked, Written};
+
+// One stretch of a delimiter row: the kinds of its first and last byte that is no whitespace, 1 where there is none, and its end.
+pub struct Ends {
+    pub first: u8,
+    pub last: u8,
+    pub end: usize,
+}
+
+// One stretch of a delimiter row: its alignment, whether it is empty, and its end.
+pub struct Mark {
+    pub align: u8,
+    pub empty: bool,
+    pub end: usize,
+}
+
+// One of two kinds, by whether the first is whitespace.
+pub fn unless(k: u8, a: u8, b: u8) -> u8
+    ensures { λ r. ⌜ r ≡ cond (eqb k 1) a b ⌝ }
+{
+    if k == 1 {
+        return a;
+    }
+    b
+}
+
+// The ends with one more byte of a kind.
+pub fn ends_over(e: Ends, k: u8) -> Ends
+    requires { ⌜ e .end < 1000000 ⌝ }
+    ensures { λ r. ⌜ r ≡ endsOver e k ⌝ }
+{
+    Ends {
+        first: unless(e.first, k, e.first),
+        last: unless(k, e.last, k),
+        end: e.end + 1,
+    }
+}
+
+// The first stretch from a place on, byte by byte.
+pub fn scan_stretch(s: &[u8], at: usize) -> Ends
+    requires { ⌜ (length (now s) ≤ 65536) × (at ≤ length (now s)) ⌝ }
+    ensures { λ r. ⌜ r ≡ scanned at (lineFrom (now (s .entry)) at) ⌝ }
+{
+    let mut e = Ends {
+        first: 1,
+        last: 1,
+        end: at,
+    };
+    loop {
+        let k = kind_at(s, e.end);
+        match k {
+            2 => {
+                return e;
+            }
+            3 => {
+                return e;
+            }
+            _ => {
+                e = ends_over(e, k);
+            }
+        }
+    }
+}
+
+// The alignment that the ends of a value tell.
+pub fn align_of(first: u8, last: u8) -> u8
+    ensures { λ r. ⌜ r ≡ alignBy first last ⌝ }
+{
+    if first == 6 {
+        if last == 6 {
+            return 4;
+        }
+        return 2;
+    }
+    if last == 6 {
+        return 3;
+    }
+    1
+}
+
+// The first stretch from a place on: what it tells.
+pub fn mark_at(s: &[u8], at: usize) -> Mark
+    requires { ⌜ (length (now s) ≤ 65536) × (at ≤ length (now s)) ⌝ }
+    ensures { λ r. ⌜ Marked (lineFrom (now (s .entry)) at) at r ⌝ }
+{
+    let e = scan_stretch(s, at);
+    Mark {
+        align: align_of(e.first, e.last),
+        empty: e.first == 1,
+        end: e.end,
+    }
+}
+
+// Where a delimiter line's values start: after a leading divider.
+pub fn values_from(s: &[u8], at: usize) -> usize
+    requires { ⌜ (length (now s) ≤ 65536) × (at ≤ length (now s)) ⌝ }
+    ensures { λ r. ⌜ (r ≤ length (now (s .entry))) × (alignsFrom (now (s .entry)) r ≡ alignments kindOf (values kindOf (lineFrom (now (s .entry)) at))) ⌝ }
+{
+    let m = mark_at(s, at);
+    if m.empty {
+        if kind_at(s, m.end) == 3 {
+            return m.end + 1;
+        }
+    }
+    at
+}
+
+// The alignments of the stretches from a place on, into the first of the slots.
+pub fn align_rest(s: &[u8], at: usize, slots: &mut [u8])
+    requires { ⌜ (length (now s) ≤ 65536) × (at ≤ length (now s)) × (length (alignsFrom (now s) at) ≤ length (now slots)) ⌝ }
+    ensures { λ _. ⌜ now (slots .exit) ≡ filled 0 (alignsFrom (now (s .entry)) at) (now (slots .entry)) ⌝ }
+{
+    let mut i = at;
+    let mut n: usize = 0;
+    loop {
+        let m = mark_at(s, i);
+        if kind_at(s, m.end) == 3 {
+            slots[n] = m.align;
+            n += 1;
+            i = m.end + 1;
+        } else {
+            if m.empty {
+                return;
+            }
+            slots[n] = m.align;
+            return;
+        }
+    }
+}
+
+// One table's alignments, from its delimiter line, into the first of the slots.
+pub fn align_line(s: &[u8], p: Point, slots: &mut [u8])
+    requires { ⌜ Inside (now s) p × (length (alignments kindOf (values kindOf (restOf (now s) p))) ≤ length (now slots)) ⌝ }
+    ensures { λ _. ⌜ now (slots .exit) ≡ filled 0 (alignments kindOf (values kindOf (restOf (now (s .entry)) p))) (now (slots .entry)) ⌝ }
+{
+    align_rest(s, values_from(s, p.index as usize), slots);
+}
+
+// All tables' alignments, as far as they fit, and whether all do: what is left of the slots is lent on for the next table.
+pub fn align_tables(s: &[u8], on: bool, slots: &mut [u8]) -> bool
+    requires { ⌜ length (now s) ≤ 65536 ⌝ }
+    ensures { λ r. ⌜ Written (alignedOf (tables kindOf on (now (s .entry)))) (now (slots .entry)) r (now (slots .exit)) ⌝ }
+{
+    let mut p = Point::start();
+    let mut n: usize = 0;
+    loop {
+        match next_head(s, p, on) {
+            Next::Nothing => {
+                return true;
+            }
+            Next::Head(at, o) => {
+                let d = o.delimiter;
+                let e = o.end;
+                let k = o.cells as usize;
+                if slots.len() - n < k {
+                    return false;
+                }
+                align_line(s, d, &mut slots[n..]);
+                n += k;
+                match body_end(s, e) {
+                    Further::Last => {
+                        return true;
+                    }
+                    Further::More(q) => {
+                        p = q;
+                    }
+                }
+            }
+        }
+    }
+}
+
+// Every slot is zero.
+pub fn clear(slots: &mut [u8])
+    ensures { λ _. ⌜ now (slots .exit) ≡ zeros (length (now (slots .entry))) ⌝ }
+{
+    let mut i = 0;
+    while i < slots.len() {
+        slots[i] = 0;
+        i += 1;
+    }
+}
+
+// The alignments and then zeros, where they are wanted and fit; otherwise zeros.
+pub fn align_into(s: &[u8], on: bool, go: bool, slots: &mut [u8])
+    requires { ⌜ length (now s) ≤ 65536 ⌝ }
+    ensures { λ _. ⌜ now (slots .exit) ≡ alignedInto go (alignedOf (tables kindOf on (now (s .entry)))) (length (now (slots .entry))) ⌝ }
+{
+    clear(slots);
+    if go {
+        if align_tables(s, on, slots) {
+            return;
+        }
+        clear(slots);
+    }
+}

@@ -1,0 +1,113 @@
+// The counts of a sheet: tables, raw events and alignments, in one pass.
+use crate::seek::Next;
+use crate::seek::next_head;
+use gfm_table::delimiter::delimiter_count;
+use gfm_table::heads::Opened;
+use gfm_table::states::row;
+use tokenizer::event::Point;
+use tokenizer::lines::Further;
+use tokenizer::lines::is_blank;
+use tokenizer::lines::line_after;
+ghost use mathlib.Core.Path.{_≡_};
+ghost use Prim.Native.Nat.{_≤_};
+ghost use lib.ListN.{length};
+ghost use Rattle.tokenizer.specs.Bytes.{kindOf};
+ghost use Rattle.tokenizer.specs.Moves.{Inside};
+ghost use Rattle.sheet.specs.Walk.{tables};
+ghost use Rattle.sheet.specs.Counting.{countsOf, bodyEvents, tableEvents, Reads};
+
+// How many tables, raw events and alignments a sheet has.
+pub struct Counts {
+    pub tables: u32,
+    pub raw: u32,
+    pub aligned: u32,
+}
+
+// How many events were passed, and the blank line where the walk goes on, if there is one.
+pub struct Read {
+    pub events: u32,
+    pub next: Further,
+}
+
+// The body rows after a line of a table.
+pub fn body_after(s: &[u8], p: Point) -> Read
+    requires { ⌜ Inside (now s) p ⌝ }
+    ensures { λ r. ⌜ Reads (now (s .entry)) p (bodyEvents (now (s .entry)) p) r ⌝ }
+{
+    let mut q = p;
+    let mut n: u32 = 0;
+    loop {
+        match line_after(s, q) {
+            Further::Last => {
+                return Read {
+                    events: n,
+                    next: Further::Last,
+                };
+            }
+            Further::More(t) => {
+                if is_blank(s, t) {
+                    return Read {
+                        events: n,
+                        next: Further::More(t),
+                    };
+                }
+                let r = row(s, t);
+                n = n + (4 + 2 * r.count);
+                q = r.at;
+            }
+        }
+    }
+}
+
+// A table whose head was found.
+pub fn table_after(s: &[u8], o: Opened) -> Read
+    requires { ⌜ Inside (now s) (o .delimiter) × Inside (now s) (o .end) × (o .pieces ≤ 65536) ⌝ }
+    ensures { λ r. ⌜ Reads (now (s .entry)) (o .end) (tableEvents (now (s .entry)) o) r ⌝ }
+{
+    let d = o.delimiter;
+    let e = o.end;
+    let n = delimiter_count(s, d);
+    let b = body_after(s, e);
+    let next = b.next;
+    Read {
+        events: 8 + 2 * o.pieces + 2 * n + b.events,
+        next,
+    }
+}
+
+// The counts of a sheet.
+pub fn count(s: &[u8], on: bool) -> Counts
+    requires { ⌜ length (now s) ≤ 65536 ⌝ }
+    ensures { λ r. ⌜ r ≡ countsOf (tables kindOf on (now (s .entry))) ⌝ }
+{
+    let mut c = Counts {
+        tables: 0,
+        raw: 0,
+        aligned: 0,
+    };
+    let mut p = Point::start();
+    loop {
+        match next_head(s, p, on) {
+            Next::Nothing => {
+                return c;
+            }
+            Next::Head(at, o) => {
+                let t = table_after(s, o);
+                c = Counts {
+                    tables: c.tables + 1,
+                    raw: c.raw + t.events,
+                    aligned: c.aligned + o.cells,
+                };
+                let next = t.next;
+                match next {
+                    Further::Last => {
+                        return c;
+                    }
+                    Further::More(q) => {
+                        p = q;
+                    }
+                }
+            }
+        }
+    }
+}

@@ -1,0 +1,44 @@
+// The walk over a whole sheet.
+use calls::Sheet;
+use calls::align_sheet;
+use calls::judge;
+use calls::planned;
+use calls::resolve_first;
+use calls::sheet_plan;
+use stream::fill;
+use tokenizer::event::Event;
+use tokenizer::slots::clear_from;
+ghost use mathlib.Core.Path.{_≡_};
+ghost use lib.ListN.{length};
+ghost use Rattle.sheet.specs.Calls.{sheetOf, sheetRaw, sheetResults, sheetAligned};
+
+pub mod align;
+pub mod calls;
+pub mod count;
+pub mod seek;
+pub mod stream;
+
+// A whole sheet: its tables' raw events, their result events, and their alignments.
+pub fn sheet(
+    sheet: &[u8],
+    code_indented: bool,
+    raw: &mut [Event],
+    results: &mut [Event],
+    alignments: &mut [u8],
+) -> Sheet
+    ensures { λ r. ⌜ (r ≡ sheetOf (now (sheet .entry)) «code_indented» (length (now (raw .entry))) (length (now (results .entry))) (length (now (alignments .entry))))
+        × ((now (raw .exit) ≡ sheetRaw (now (sheet .entry)) «code_indented» (length (now (raw .entry))) (length (now (results .entry))) (length (now (alignments .entry))))
+        × ((now (results .exit) ≡ sheetResults (now (sheet .entry)) «code_indented» (length (now (raw .entry))) (length (now (results .entry))) (length (now (alignments .entry))))
+        × (now (alignments .exit) ≡ sheetAligned (now (sheet .entry)) «code_indented» (length (now (raw .entry))) (length (now (results .entry))) (length (now (alignments .entry)))))) ⌝ }
+{
+    let plan = sheet_plan(sheet, code_indented, raw.len());
+    let walk = plan.walk;
+    fill(sheet, code_indented, walk, raw);
+    let n = planned(plan);
+    let r = resolve_first(raw, n, results);
+    let v = judge(plan, r, raw.len(), results.len(), alignments.len());
+    align_sheet(sheet, code_indented, v.go, alignments);
+    clear_from(raw, v.raw);
+    clear_from(results, v.results);
+    v.answer
+}

@@ -1,0 +1,60 @@
+// The next head of a sheet, and the end of a table's body.
+use gfm_table::heads::Answer;
+use gfm_table::heads::Opened;
+use gfm_table::heads::head_at;
+use tokenizer::event::Point;
+use tokenizer::lines::Further;
+use tokenizer::lines::is_blank;
+use tokenizer::lines::line_after;
+ghost use Rattle.tokenizer.specs.Moves.{Inside};
+ghost use Rattle.sheet.specs.From.{AtLine, Finds, Onward};
+
+// A head: where its line starts, and what it opens.
+pub enum Next {
+    Head(Point, Opened),
+    Nothing,
+}
+
+// The first head from a line on: one is tried at each line.
+pub fn next_head(s: &[u8], p: Point, on: bool) -> Next
+    requires { ⌜ AtLine (now s) p ⌝ }
+    ensures { λ r. ⌜ Finds (now (s .entry)) on p r ⌝ }
+{
+    let mut q = p;
+    loop {
+        match head_at(s, q, on, false) {
+            Answer::Accepted(o) => {
+                return Next::Head(q, o);
+            }
+            Answer::Refused(k) => match line_after(s, q) {
+                Further::Last => {
+                    return Next::Nothing;
+                }
+                Further::More(d) => {
+                    q = d;
+                }
+            },
+        }
+    }
+}
+
+// The blank line that ends the body after a line of a table, if there is one.
+pub fn body_end(s: &[u8], p: Point) -> Further
+    requires { ⌜ Inside (now s) p ⌝ }
+    ensures { λ r. ⌜ Onward (now (s .entry)) p r ⌝ }
+{
+    let mut q = p;
+    loop {
+        match line_after(s, q) {
+            Further::Last => {
+                return Further::Last;
+            }
+            Further::More(t) => {
+                if is_blank(s, t) {
+                    return Further::More(t);
+                }
+                q = t;
+            }
+        }
+    }
+}
