@@ -18,7 +18,7 @@ use Rattle.gfm_table.specs.Delimiters.{stretch, written}
 use Rattle.gfm_table.proofs.Stretches.{cells, cells-split, cells-last, untrailed-more, last-stretch, more-stretch}
 use Rattle.sheet.specs.declared.align.Ends.{Ends}
 use Rattle.sheet.specs.Aligning.{lineFrom, alignsFrom, endsOver, endsPast, scanned, alignBy, Marked}
-use Rattle.sheet.proofs.From.{test}
+use Rattle.sheet.proofs.Tests.{test}
 
 -- ## The ends of a stretch
 

@@ -11,11 +11,11 @@ use Rattle.tokenizer.specs.declared.event.Point.{Point}
 use Rattle.tokenizer.specs.Bytes.{kindOf}
 use Rattle.tokenizer.specs.Points.{past, nextLine}
 use Rattle.tokenizer.specs.Lines.{endAt, blank}
-use Rattle.tokenizer.specs.Places.{Placed}
+use Rattle.tokenizer.specs.Places.{Placed, linesFrom, linesPast}
 use Rattle.tokenizer.specs.Moves.{restOf, lineAt, after}
 use Rattle.tokenizer.proofs.Ahead.{past-none}
 use Rattle.tokenizer.proofs.Ends.{end-past, stop-rest}
-use Rattle.tokenizer.proofs.Places.{linesFrom, linesPast, lines-from}
+use Rattle.tokenizer.proofs.Places.{lines-from}
 use Rattle.gfm_table.specs.Rows.{Passed, rowPieces, rawRow}
 use Rattle.gfm_table.specs.Raw.{lineEndAt, textRow}
 use Rattle.gfm_table.proofs.Plans.{row-length}

@@ -14,8 +14,7 @@ use Rattle.tokenizer.specs.Events.{GfmTableRow, GfmTableDelimiterRow}
 use Rattle.tokenizer.specs.Points.{past, nextLine}
 use Rattle.tokenizer.specs.Lines.{Line, startsLF, onFirst, crlf, lines, blank, isEmpty}
 use Rattle.tokenizer.specs.Moves.{lineAt, after}
-use Rattle.tokenizer.specs.Places.{Placed, placed}
-use Rattle.tokenizer.proofs.Places.{linesFrom, linesPast}
+use Rattle.tokenizer.specs.Places.{Placed, placed, linesFrom, linesPast}
 use Rattle.gfm_table.specs.Heads.{onStretch, stretches, trimmed, unled, untrailed, values, alignments}
 use Rattle.gfm_table.specs.Rows.{rowPieces, delimiterPieces, both, rawRow}
 use Rattle.gfm_table.specs.Raw.{textRow}
@@ -24,7 +23,7 @@ use Rattle.edit_map.specs.Tables.{rawBody, rawTable}
 use Rattle.sheet.specs.Walk.{Found, lineEnd, bodyRows, rawOf, alignedOf, tableOf, opens, heads, rows}
 use Rattle.sheet.specs.From.{here}
 use Rattle.sheet.specs.Counting.{bodyEvents}
-use Rattle.sheet.proofs.From.{test}
+use Rattle.sheet.proofs.Tests.{test}
 
 -- ## A line
 

@@ -15,11 +15,11 @@ use Rattle.tokenizer.specs.Points.{start, past, nextLine}
 use Rattle.tokenizer.specs.Events.{LineEnding, GfmTableHead, enter, leave}
 use Rattle.tokenizer.specs.Slots.{slotsOf}
 use Rattle.tokenizer.specs.Lines.{endAt, blank}
-use Rattle.tokenizer.specs.Places.{Placed}
+use Rattle.tokenizer.specs.Places.{Placed, linesFrom, linesPast}
 use Rattle.tokenizer.specs.Moves.{restOf, lineAt, after, Inside}
 use Rattle.tokenizer.proofs.Ahead.{past-none}
 use Rattle.tokenizer.proofs.Ends.{end-past, body-inside, stop-rest, after-inside}
-use Rattle.tokenizer.proofs.Places.{linesFrom, linesPast, lines-from}
+use Rattle.tokenizer.proofs.Places.{lines-from}
 use Rattle.gfm_table.specs.declared.stream.Part.{Part}
 use Rattle.gfm_table.specs.declared.stream.Part.the-variants.{Head, Delimiter, Body}
 use Rattle.gfm_table.specs.declared.stream.Cursor.{Cursor}
@@ -38,19 +38,11 @@ use Rattle.sheet.specs.declared.stream.Walked.{Walked}
 use Rattle.sheet.specs.Walk.{Found, lineEnd, bodyRows, opens, found, heads, rows, tables, rawOf}
 use Rattle.sheet.specs.Stream.{headsFrom, noMore, seekOf, onwardOf, inside, endedOf, nextOf, stepsOf, Standing, Good}
 use Rattle.sheet.specs.From.{AtLine, here}
+use Rattle.sheet.proofs.From.{heads-blank, past-last, past-more, after-line}
 
 -- ## Lines
 
 module _ (s : List ℕ) (p : Point) where
-  pub past-last : lineAt s p .end ≡ 0 → linesPast s p ≡ []
-  past-last e = rw (eq-eqb (lineAt s p .end) 0 e)
-
-  pub past-more : (lineAt s p .end ≡ 0 → ⊥) → linesPast s p ≡ linesFrom s (after s p)
-  past-more z = rw (ne-eqb (lineAt s p .end) 0 z)
-
-  pub after-line : (lineAt s p .end ≡ 0 → ⊥) → Inside s p → AtLine s (after s p)
-  after-line z h = record { inside = after-inside s p z h; first = refl }
-
   -- the end of a line has the line's end
   abbrev stop : Point
   stop = past p (restOf s p)
@@ -78,12 +70,6 @@ module _ (s : List ℕ) (p : Point) where
   end-here e h = ap (λ (q : Point). endAt (drop (q .index) s)) (sym (stop-here e h)) ∙ end-past s p
 
 -- ## Tables
-
--- a blank line is no head
-pub heads-blank : (on : Bool) (l : Placed) (ls : List Placed) → blank kindOf (l .line .body) ≡ true → heads kindOf on (l ∷ ls) ≡ heads kindOf on ls
-unfolding heads
-heads-blank on l [] e = refl
-heads-blank on l (d ∷ ls) e = rw e
 
 -- no table from a line on, or the first one is opened at a line and the next
 pub data View (s : List ℕ) (on : Bool) (p : Point) (fs : List Found) : Type 0 where
@@ -167,13 +153,6 @@ module _ (s : List ℕ) (on : Bool) where
 
   -- ## A table is opened
 
-  head-end : (l d : Placed) → opens kindOf on l d ≡ true → l .line .end ≡ 0 → ⊥
-  head-end l d o = refused-end on false (l .line) (d .line) (eqb-true _ 0 (and-right (not (blank kindOf (l .line .body))) _ o))
-    where
-      and-right : (a b : Bool) → a && b ≡ true → b ≡ true
-      and-right true b e = e
-      and-right false b e = absurd (true≢false (sym e))
-
   -- a head line is followed by its line end and its delimiter row
   follow-head : (p : Point) → (lineAt s p .end ≡ 0 → ⊥) → T.follow s onward Head (past p (restOf s p)) ≡ both (lineEnd (here s p)) ++ T.delimited s onward (after s p)
   follow-head p z =
@@ -222,7 +201,7 @@ module _ (s : List ℕ) (on : Bool) where
       unfolding coming T.coming bodyRows rawBody heads
       blank-row b =
           same (In (Ended Body p)) (Seek q) (seekOf (headsFrom s on q))
-          (onward-next ∙ rw b (ap rawOf (sym (ap (heads kindOf on) (lines-from s q) ∙ heads-blank on (here s q) (linesPast s q) b))))
+          (onward-next ∙ rw b (ap rawOf (sym (ap (heads kindOf on) (lines-from s q) ∙ heads-blank kindOf on (here s q) (linesPast s q) b))))
           (seeks q (after-line s p z h))
 
       next-row : blank kindOf (restOf s q) ≡ false → Gives (In (Ended Body p)) (record { event = enter LineEnding p; next = In (Broken Body q) })
@@ -315,9 +294,6 @@ module _ (s : List ℕ) (on : Bool) where
   pub coming-start : coming s on (Seek start) ≡ rawOf (tables kindOf on s)
   unfolding coming
   coming-start = refl
-
-  pub start-line : length s ≤ 65536 → AtLine s start
-  start-line h = record { inside = record { short = h; within = omega arith; narrow = omega arith; lined = omega arith; flat = refl }; first = refl }
 
 -- behind a head line that has ended, and has a line end, that is entered
 pub break-line : (s : List ℕ) (on : Bool) (p : Point) → Inside s p → restOf s p ≡ [] → (lineAt s p .end ≡ 0 → ⊥)

@@ -13,9 +13,8 @@ use Rattle.tokenizer.specs.declared.lines.Further.{Further}
 use Rattle.tokenizer.specs.Bytes.{kindOf}
 use Rattle.tokenizer.specs.Moves.{restOf, after, Inside}
 use Rattle.tokenizer.specs.Lines.{blank}
-use Rattle.tokenizer.specs.Places.{Placed}
+use Rattle.tokenizer.specs.Places.{Placed, linesFrom, linesPast}
 use Rattle.tokenizer.proofs.Ends.{body-inside}
-use Rattle.tokenizer.proofs.Places.{linesFrom, linesPast}
 use Rattle.gfm_table.specs.declared.heads.Opened.{Opened}
 use Rattle.gfm_table.specs.Rows.{rowPieces}
 use Rattle.gfm_table.specs.Heads.{permitted, loneDivider, solid, isDelimiterRow, headCells, values, alignments}

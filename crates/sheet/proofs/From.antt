@@ -13,9 +13,9 @@ use Rattle.tokenizer.specs.declared.lines.Further.the-variants.{More, Last}
 use Rattle.tokenizer.specs.Bytes.{kindOf}
 use Rattle.tokenizer.specs.Points.{start}
 use Rattle.tokenizer.specs.Lines.{unindented, blank}
-use Rattle.tokenizer.specs.Places.{Placed}
+use Rattle.tokenizer.specs.Places.{Placed, linesFrom, linesPast}
 use Rattle.tokenizer.specs.Moves.{restOf, lineAt, after, furtherOf, Inside}
-use Rattle.tokenizer.proofs.Places.{linesFrom, linesPast, lines-from}
+use Rattle.tokenizer.proofs.Places.{lines-from}
 use Rattle.tokenizer.proofs.Ends.{after-inside}
 use Rattle.gfm_table.specs.declared.heads.Opened.{Opened}
 use Rattle.gfm_table.specs.declared.heads.Answer.the-variants.{Refused, Accepted}
@@ -23,13 +23,9 @@ use Rattle.gfm_table.specs.Rows.{Piece, onPieces, oddAfter, rowPieces}
 use Rattle.gfm_table.specs.Heads.{solid, permitted, headRefusal}
 use Rattle.gfm_table.specs.Answers.{headAt}
 use Rattle.gfm_table.proofs.Answers.{is-refused, is-accepted, refused-end}
+use Rattle.sheet.proofs.Tests.{test}
 use Rattle.sheet.specs.Walk.{opens, found, heads, rows}
 use Rattle.sheet.specs.From.{AtLine, Opens, here}
-
--- a statement proved where a test passes and where it fails
-pub test {ℓ} : {P : Type ℓ} (b : Bool) → (b ≡ true → P) → (b ≡ false → P) → P
-test true f g = f refl
-test false f g = g refl
 
 -- a sheet starts with a line
 pub start-line : (s : List ℕ) → length s ≤ 65536 → AtLine s start

@@ -8,11 +8,11 @@ use native.Mathlib.Omega.{arith}
 use borrow.Rule.Slice.PartMut.{midOf, putMid, mid-len}
 use borrow.Author.Tests.{le-leb, lt-leb}
 use lib.ListN.{length, length-append}
+use Rattle.tokenizer.specs.Places.{linesFrom, linesPast}
 use Rattle.tokenizer.specs.declared.event.Point.{Point}
 use Rattle.tokenizer.specs.declared.lines.Further.{Further}
 use Rattle.tokenizer.specs.Bytes.{kindOf}
 use Rattle.tokenizer.specs.Moves.{after}
-use Rattle.tokenizer.proofs.Places.{linesFrom, linesPast}
 use Rattle.gfm_table.specs.declared.heads.Opened.{Opened}
 use Rattle.sheet.specs.Walk.{Found, heads, rows, tables, alignedOf}
 use Rattle.sheet.specs.From.{Opens, Onward, tablesAt}

@@ -1,4 +1,5 @@
--- What the proofs of this crate use.
+-- What the proofs of this crate use: of the code first, then of demand 3.
+pub mod Tests
 pub mod From
 pub mod Coming
 pub mod Bounds
@@ -10,7 +11,6 @@ pub mod Lending
 pub mod Types
 pub mod Tabled
 pub mod Sheets
-pub mod Tests
 pub mod Lists
 pub mod Alike
 pub mod Walks

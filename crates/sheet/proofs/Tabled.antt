@@ -29,7 +29,7 @@ use Rattle.edit_map.specs.Answers.{resolveAnswer, resolveSlots}
 use Rattle.edit_map.proofs.RawRows.{text-row, delimiter-row}
 use Rattle.edit_map.proofs.Parse.{accepts-raw}
 use Rattle.edit_map.proofs.Resolving.{tables-of}
-use Rattle.sheet.proofs.From.{test as split}
+use Rattle.sheet.proofs.Tests.{test, both-true}
 use Rattle.sheet.specs.Walk.{Found, lineEnd, bodyRows, tableOf, opens, found, heads, rows, tables, rawOf, resolvedOf}
 
 -- the tables alone
@@ -84,21 +84,13 @@ rows-are l (m ∷ ls) = go (blank kindOf (m .line .body)) refl (rows-are m ls)
 
 -- ## Tables
 
-and-left : (a b : Bool) → a && b ≡ true → a ≡ true
-and-left true b e = refl
-and-left false b e = e
-
-and-right : (a b : Bool) → a && b ≡ true → b ≡ true
-and-right true b e = e
-and-right false b e = absurd (true≢false (sym e))
-
 is-table : (on : Bool) (l d : Placed) (ls : List Placed) → opens kindOf on l d ≡ true → IsTable (tableOf kindOf l d ls)
 is-table on l d ls o =
-    let b = and-left (not (blank kindOf (l .line .body))) (eqb (headRefusal kindOf on false (l .line) (d .line)) 0) o in
-    let r = eqb-true (headRefusal kindOf on false (l .line) (d .line)) 0 (and-right (not (blank kindOf (l .line .body))) (eqb (headRefusal kindOf on false (l .line) (d .line)) 0) o) in
+    let b = both-true (not (blank kindOf (l .line .body))) (eqb (headRefusal kindOf on false (l .line) (d .line)) 0) o in
+    let r = eqb-true (headRefusal kindOf on false (l .line) (d .line)) 0 (b .1) in
     record {
       enter = refl;
-      head = not-blank (l .at) (l .line .body) (not-true (blank kindOf (l .line .body)) b);
+      head = not-blank (l .at) (l .line .body) (not-true (blank kindOf (l .line .body)) (b .0));
       between = record { enter = refl; leave = refl };
       delimiter = delimits on (l .line) (d .line) (d .at) r;
       leave = refl;
@@ -112,11 +104,11 @@ module _ (on : Bool) where
     heads-are : (ls : List Placed) → AreTables (tablesIn (heads kindOf on ls))
     heads-are [] = AreTables.none
     heads-are (l ∷ []) = AreTables.none
-    heads-are (l ∷ d ∷ ls) = split (opens kindOf on l d) (λ e. rw e (AreTables.table (is-table on l d ls e) (rows-on ls))) (λ e. rw e (heads-are (d ∷ ls)))
+    heads-are (l ∷ d ∷ ls) = test (opens kindOf on l d) (λ e. rw e (AreTables.table (is-table on l d ls e) (rows-on ls))) (λ e. rw e (heads-are (d ∷ ls)))
 
     rows-on : (ls : List Placed) → AreTables (tablesIn (rows kindOf on ls))
     rows-on [] = AreTables.none
-    rows-on (l ∷ ls) = split (blank kindOf (l .line .body)) (λ e. rw e (heads-are ls)) (λ e. rw e (rows-on ls))
+    rows-on (l ∷ ls) = test (blank kindOf (l .line .body)) (λ e. rw e (heads-are ls)) (λ e. rw e (rows-on ls))
 
   -- ## What resolving answers
 

@@ -3,10 +3,10 @@ use Prim.Native.Nat.{ℕ, _+_, _*_}
 use mathlib.Core.Path.{_≡_}
 use mathlib.Core.List.{List}
 use lib.ListN.{length}
+use Rattle.tokenizer.specs.Places.{linesPast}
 use Rattle.tokenizer.specs.declared.event.Point.{Point}
 use Rattle.tokenizer.specs.Bytes.{kindOf}
 use Rattle.tokenizer.specs.Moves.{restOf}
-use Rattle.tokenizer.proofs.Places.{linesPast}
 use Rattle.gfm_table.specs.declared.heads.Opened.{Opened}
 use Rattle.gfm_table.specs.Rows.{delimiterPieces}
 use Rattle.edit_map.specs.Tables.{rawBody}

@@ -7,9 +7,8 @@ use Rattle.tokenizer.specs.declared.event.Point.{Point}
 use Rattle.tokenizer.specs.declared.lines.Further.{Further}
 use Rattle.tokenizer.specs.declared.lines.Further.the-variants.{More, Last}
 use Rattle.tokenizer.specs.Bytes.{kindOf}
-use Rattle.tokenizer.specs.Places.{Placed}
+use Rattle.tokenizer.specs.Places.{Placed, linesFrom, linesPast}
 use Rattle.tokenizer.specs.Moves.{lineAt, after, Inside}
-use Rattle.tokenizer.proofs.Places.{linesFrom, linesPast}
 use Rattle.gfm_table.specs.declared.heads.Opened.{Opened}
 use Rattle.gfm_table.specs.Answers.{openedAt}
 use Rattle.sheet.specs.declared.seek.Next.{Next}

@@ -4,14 +4,13 @@ use mathlib.Core.Path.{_≡_}
 use mathlib.Core.List.{List, [], _∷_}
 use mathlib.Core.Bool.{Bool, cond}
 use lib.Dec.{eqb}
-use lib.ListN.{drop}
 use Rattle.tokenizer.specs.declared.event.Point.{Point}
 use Rattle.tokenizer.specs.declared.event.Event.{Event}
 use Rattle.tokenizer.specs.Bytes.{kindOf}
 use Rattle.tokenizer.specs.Points.{start}
 use Rattle.tokenizer.specs.Events.{LineEnding, blankEvent, enter, pointOf}
-use Rattle.tokenizer.specs.Lines.{lines, blank}
-use Rattle.tokenizer.specs.Places.{Placed, placed}
+use Rattle.tokenizer.specs.Lines.{blank}
+use Rattle.tokenizer.specs.Places.{linesFrom}
 use Rattle.tokenizer.specs.Moves.{restOf, lineAt, after, Inside}
 use Rattle.gfm_table.specs.declared.stream.Part.{Part}
 use Rattle.gfm_table.specs.declared.stream.Part.the-variants.{Head, Delimiter, Body}
@@ -27,7 +26,7 @@ use Rattle.sheet.specs.From.{AtLine}
 
 -- the tables from the line that starts at a point on
 abbrev pub headsFrom : List ℕ → Bool → Point → List Found
-headsFrom s on p = heads kindOf on (placed p (lines (drop (p .index) s)))
+headsFrom s on p = heads kindOf on (linesFrom s p)
 
 -- nothing more comes
 abbrev pub noMore : Walked

@@ -11,7 +11,7 @@ use lib.ListN.{length, drop}
 use lib.Seq.{drop-drop}
 use Rattle.tokenizer.specs.declared.event.Point.{Point}
 use Rattle.tokenizer.specs.Lines.{Line, startsLF, lineBody, lineOf, onFirst, emptyLine, crlf, lines}
-use Rattle.tokenizer.specs.Places.{Placed, placed}
+use Rattle.tokenizer.specs.Places.{Placed, placed, linesFrom, linesPast}
 use Rattle.tokenizer.specs.Moves.{restOf, lineAt, after}
 
 -- the lines after the first, if a line end closes it
@@ -51,16 +51,7 @@ lines-first (b ∷ u) = go (eqb b 10) (eqb b 13) refl refl (lines-first u)
     go false false e f h = rw (h, e, f, suc-add)
 
 module _ (s : List ℕ) (p : Point) where
-  -- the lines from the one that starts at a point on
-  abbrev pub linesFrom : List Placed
-  linesFrom = placed p (lines (drop (p .index) s))
-
-module _ (s : List ℕ) (p : Point) where
-  -- the lines after the one that a point is in
-  abbrev pub linesPast : List Placed
-  linesPast = cond (eqb (lineAt s p .end) 0) [] (linesFrom s (after s p))
-
-  pub lines-from : linesFrom s p ≡ record { at = p; line = lineAt s p } ∷ linesPast
+  pub lines-from : linesFrom s p ≡ record { at = p; line = lineAt s p } ∷ linesPast s p
   unfolding placed
   lines-from = rw (lines-first (drop (p .index) s)) (ap (λ (l : List Placed). record { at = p; line = lineAt s p } ∷ l) (go (eqb (lineAt s p .end) 0)))
     where

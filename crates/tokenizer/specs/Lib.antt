@@ -3,7 +3,7 @@ pub mod Points
 pub mod Events
 pub mod Slots
 pub mod Lines
+pub mod Moves
 pub mod Places
 pub mod Feed
 pub mod Spaces
-pub mod Moves

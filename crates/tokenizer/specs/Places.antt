@@ -1,9 +1,13 @@
 -- The lines of a sheet with the points where they start.
 use Prim.Native.Nat.{ℕ}
 use mathlib.Core.List.{List, [], _∷_}
+use mathlib.Core.Bool.{cond}
+use lib.Dec.{eqb}
+use lib.ListN.{drop}
 use Rattle.tokenizer.specs.declared.event.Point.{Point}
 use Rattle.tokenizer.specs.Points.{start, past, nextLine}
 use Rattle.tokenizer.specs.Lines.{Line, lines}
+use Rattle.tokenizer.specs.Moves.{lineAt, after}
 
 -- a line and the point where it starts
 pub record Placed : Type 0 where
@@ -22,3 +26,11 @@ placed p (l ∷ ls) = record { at = p; line = l } ∷ placed (nextLine (past p (
 -- the lines of a sheet
 abbrev pub placedLines : List ℕ → List Placed
 placedLines s = placed start (lines s)
+
+-- the lines from the one that starts at a point on
+abbrev pub linesFrom : List ℕ → Point → List Placed
+linesFrom s p = placed p (lines (drop (p .index) s))
+
+-- the lines after the one that a point is in
+abbrev pub linesPast : List ℕ → Point → List Placed
+linesPast s p = cond (eqb (lineAt s p .end) 0) [] (linesFrom s (after s p))

@@ -7,8 +7,8 @@ use borrow.Author.Needs.{needs}
 use borrow.Rule.Slice.PartMut.{putMid}
 use lib.ListN.{length}
 use denote.Ref.{now}
+use Rattle.tokenizer.specs.Places.{linesFrom}
 use Rattle.tokenizer.specs.Bytes.{kindOf}
-use Rattle.tokenizer.proofs.Places.{linesFrom}
 use Rattle.sheet.specs.Walk.{heads}
 use Rattle.sheet.specs.From.{AtLine, Opens, tablesAt}
 use Rattle.sheet.proofs.From.{start-line}

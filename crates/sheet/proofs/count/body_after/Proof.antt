@@ -7,10 +7,10 @@ use native.Mathlib.Omega.{arith}
 use borrow.Author.Needs.{needs}
 use lib.ListN.{length}
 use denote.Ref.{now}
+use Rattle.tokenizer.specs.Places.{linesPast}
 use Rattle.tokenizer.specs.Bytes.{kindOf}
 use Rattle.tokenizer.specs.Moves.{restOf, lineAt, after, Inside}
 use Rattle.tokenizer.specs.Lines.{blank}
-use Rattle.tokenizer.proofs.Places.{linesPast}
 use Rattle.tokenizer.proofs.Ends.{body-inside}
 use Rattle.gfm_table.specs.Machine.{RowRead}
 use Rattle.sheet.specs.Walk.{rows}

@@ -5,9 +5,9 @@ use native.Mathlib.Omega.{arith}
 use borrow.Author.Needs.{needs}
 use lib.ListN.{length}
 use denote.Ref.{now}
+use Rattle.tokenizer.specs.Places.{linesFrom}
 use Rattle.tokenizer.specs.Bytes.{kindOf}
 use Rattle.tokenizer.specs.Points.{start}
-use Rattle.tokenizer.proofs.Places.{linesFrom}
 use Rattle.sheet.specs.Walk.{tables, heads}
 use Rattle.sheet.specs.From.{AtLine, Opens, tablesAt}
 use Rattle.sheet.proofs.From.{start-line}

@@ -7,9 +7,9 @@ use native.Mathlib.Omega.{arith}
 use borrow.Author.Needs.{needs}
 use lib.ListN.{length}
 use denote.Ref.{now}
+use Rattle.tokenizer.specs.Places.{linesPast}
 use Rattle.tokenizer.specs.Bytes.{kindOf}
 use Rattle.tokenizer.specs.Moves.{lineAt, after, Inside}
-use Rattle.tokenizer.proofs.Places.{linesPast}
 use Rattle.sheet.specs.Walk.{rows}
 use Rattle.sheet.proofs.From.{is-more, is-last, after-line}
 use Rattle.sheet.proofs.Bodies.{rows-last, rows-blank, rows-row}

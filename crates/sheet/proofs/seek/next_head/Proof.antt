@@ -6,9 +6,9 @@ use native.Mathlib.Omega.{arith}
 use borrow.Author.Needs.{needs}
 use lib.ListN.{length}
 use denote.Ref.{now}
+use Rattle.tokenizer.specs.Places.{linesFrom}
 use Rattle.tokenizer.specs.Bytes.{kindOf}
 use Rattle.tokenizer.specs.Moves.{lineAt, after}
-use Rattle.tokenizer.proofs.Places.{linesFrom}
 use Rattle.sheet.specs.Walk.{heads}
 use Rattle.sheet.specs.From.{AtLine}
 use Rattle.sheet.proofs.From.{is-more, is-last, after-line, heads-last, heads-prose, opened-here}

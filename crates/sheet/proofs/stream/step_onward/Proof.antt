@@ -4,8 +4,7 @@ use mathlib.Core.Path.{_≡_, sym, _∙_}
 use borrow.Author.Tests.{eq-eqb, ne-eqb}
 use denote.Ref.{now}
 use Rattle.tokenizer.specs.Moves.{lineAt, after}
-use Rattle.sheet.proofs.From.{is-more, is-last}
-use Rattle.sheet.proofs.Coming.{after-line}
+use Rattle.sheet.proofs.From.{is-more, is-last, after-line}
 use borrow.Author.Needs.{needs}
 use Rattle.sheet.proofs.stream.step_onward.Statement.{statement}
 use Rattle.sheet.proofs.stream.step_onward.Tie as tie
