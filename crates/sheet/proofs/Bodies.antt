@@ -23,42 +23,19 @@ use Rattle.edit_map.specs.Tables.{BodyRow, rawBody}
 use Rattle.sheet.specs.Walk.{lineEnd, bodyRows, heads, rows}
 use Rattle.sheet.specs.From.{here}
 use Rattle.sheet.specs.Counting.{bodyEvents}
+use Rattle.sheet.proofs.Stops.{rows-same, stop-past, stop-line}
 use Rattle.sheet.proofs.From.{past-last, past-more, heads-at-blank}
 use Rattle.sheet.proofs.Bounds.{body-parts}
 
--- body rows are told by the line end before them
-rows-same : (l m : Placed) (ls : List Placed) → lineEnd l ≡ lineEnd m → bodyRows kindOf l ls ≡ bodyRows kindOf m ls
-unfolding bodyRows
-rows-same l m [] e = refl
-rows-same l m (k ∷ ls) e = ap (λ (x : Passed). cond (blank kindOf (k .line .body)) [] (record { before = x; row = textRow kindOf (k .at) (k .line .body) } ∷ bodyRows kindOf k ls)) e
-
 module _ (s : List ℕ) (p : Point) where
-  -- ## The end of a line
-
   abbrev stop : Point
   stop = past p (restOf s p)
 
-  stop-stop : past stop (restOf s stop) ≡ stop
-  stop-stop = ap (past stop) (stop-rest s p) ∙ past-none stop refl
-
-  stop-end : lineAt s stop .end ≡ lineAt s p .end
-  stop-end = sym (end-past s stop) ∙ ap (λ (q : Point). endAt (drop (q .index) s)) stop-stop ∙ end-past s p
-
-  stop-after : after s stop ≡ after s p
-  stop-after = ap (λ (q : Point). nextLine q (lineAt s stop .end)) stop-stop ∙ ap (nextLine stop) stop-end
-
-  -- the lines after a line are those after its end
-  pub stop-past : linesPast s stop ≡ linesPast s p
-  stop-past = ap (λ (n : ℕ). cond (eqb n 0) [] (linesFrom s (after s stop))) stop-end ∙ ap (λ (q : Point). cond (eqb (lineAt s p .end) 0) [] (linesFrom s q)) stop-after
-
-  stop-line : lineEnd (here s stop) ≡ lineEnd (here s p)
-  stop-line = ap (λ (q : Point). lineEndAt q (lineAt s stop .end)) stop-stop ∙ ap (lineEndAt stop) stop-end
-
-  -- and so are the body rows
+  -- the body rows after a line are those after its end
   pub body-stop : bodyEvents s stop ≡ bodyEvents s p
   body-stop =
-      ap (λ (ls : List Placed). length (rawBody (bodyRows kindOf (here s stop) ls))) stop-past
-      ∙ ap (λ (b : List BodyRow). length (rawBody b)) (rows-same (here s stop) (here s p) (linesPast s p) stop-line)
+      ap (λ (ls : List Placed). length (rawBody (bodyRows kindOf (here s stop) ls))) (stop-past s p)
+      ∙ ap (λ (b : List BodyRow). length (rawBody b)) (rows-same (here s stop) (here s p) (linesPast s p) (stop-line s p))
 
   -- ## No line is next, or a blank one, or a row
 

@@ -38,36 +38,8 @@ use Rattle.sheet.specs.declared.stream.Walked.{Walked}
 use Rattle.sheet.specs.Walk.{Found, lineEnd, bodyRows, opens, found, heads, rows, tables, rawOf}
 use Rattle.sheet.specs.Stream.{headsFrom, noMore, seekOf, onwardOf, inside, endedOf, nextOf, stepsOf, Standing, Good}
 use Rattle.sheet.specs.From.{AtLine, here}
+use Rattle.sheet.proofs.Stops.{rows-same, stop-end, stop-past, stop-line, stop-here, end-here}
 use Rattle.sheet.proofs.From.{heads-blank, past-last, past-more, after-line}
-
--- ## Lines
-
-module _ (s : List ℕ) (p : Point) where
-  -- the end of a line has the line's end
-  abbrev stop : Point
-  stop = past p (restOf s p)
-
-  stop-stop : past stop (restOf s stop) ≡ stop
-  stop-stop = ap (past stop) (stop-rest s p) ∙ past-none stop refl
-
-  stop-end : lineAt s stop .end ≡ lineAt s p .end
-  stop-end = sym (end-past s stop) ∙ ap (λ (q : Point). endAt (drop (q .index) s)) stop-stop ∙ end-past s p
-
-  stop-after : after s stop ≡ after s p
-  stop-after = ap (λ (q : Point). nextLine q (lineAt s stop .end)) stop-stop ∙ ap (nextLine stop) stop-end
-
-  stop-past : linesPast s stop ≡ linesPast s p
-  stop-past = ap (λ (n : ℕ). cond (eqb n 0) [] (linesFrom s (after s stop))) stop-end ∙ ap (λ (q : Point). cond (eqb (lineAt s p .end) 0) [] (linesFrom s q)) stop-after
-
-  stop-line : lineEnd (here s stop) ≡ lineEnd (here s p)
-  stop-line = ap (λ (q : Point). lineEndAt q (lineAt s stop .end)) stop-stop ∙ ap (lineEndAt stop) stop-end
-
-  -- where nothing is left, the line ends at the point
-  pub stop-here : restOf s p ≡ [] → Inside s p → stop ≡ p
-  stop-here e h = ap (past p) e ∙ past-none p (h .flat)
-
-  end-here : restOf s p ≡ [] → Inside s p → endAt (drop (p .index) s) ≡ lineAt s p .end
-  end-here e h = ap (λ (q : Point). endAt (drop (q .index) s)) (sym (stop-here e h)) ∙ end-past s p
 
 -- ## Tables
 
@@ -135,12 +107,6 @@ module _ (s : List ℕ) (on : Bool) where
   same : (w v : Walk) (r : Walked) → coming w ≡ coming v → Gives v r → Gives w r
   same w v r e (gives f g) = gives (e ∙ f) g
   same w v r e (ends f g) = ends (e ∙ f) g
-
-  -- body rows are told by the line end before them
-  rows-same : (l m : Placed) (ls : List Placed) → lineEnd l ≡ lineEnd m → bodyRows kindOf l ls ≡ bodyRows kindOf m ls
-  unfolding bodyRows
-  rows-same l m [] e = refl
-  rows-same l m (k ∷ ls) e = ap (λ (x : Passed). cond (blank kindOf (k .line .body)) [] (record { before = x; row = textRow kindOf (k .at) (k .line .body) } ∷ bodyRows kindOf k ls)) e
 
   onward-stop : (p : Point) → onward (past p (restOf s p)) ≡ onward p
   onward-stop p =

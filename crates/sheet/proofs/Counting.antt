@@ -27,7 +27,8 @@ use Rattle.sheet.specs.From.{Opens, Onward, here, tablesAt}
 use Rattle.sheet.specs.Counting.{Reads, tableEvents, countsOf}
 use Rattle.sheet.proofs.From.{after-line}
 use Rattle.sheet.proofs.Bounds.{tally, aligned-length, table-length}
-use Rattle.sheet.proofs.Bodies.{stop-past, body-stop}
+use Rattle.sheet.proofs.Stops.{stop-past}
+use Rattle.sheet.proofs.Bodies.{body-stop}
 
 -- ## A head has as many cells as values
 

@@ -1,6 +1,7 @@
 -- What the proofs of this crate use: of the code first, then of demand 3.
 pub mod Tests
 pub mod From
+pub mod Stops
 pub mod Coming
 pub mod Bounds
 pub mod Bodies
