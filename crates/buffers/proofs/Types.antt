@@ -36,11 +36,11 @@ abbrev pub hm-ty : Ty
 hm-ty = HeadSmall′.mir
 
 -- the machine value, with each array as the walk has it
-pub hm-same : (z : HeadSmall) → LL.val HeadSmall.the-type HeadSmall′.the-laws z ≡ vstruct (ofList (he .val (z .answer) ∷ (array-data ev 128) .val (z .raw) ∷ []))
+pub hm-same : (z : HeadSmall) → LL.val HeadSmall.the-type HeadSmall′.the-laws z ≡ vstruct (ofList (he .val (z .answer) ∷ (array-data ev 256) .val (z .raw) ∷ []))
 hm-same z = λ i. vstruct (ofList (he .val (z .answer) ∷ arrayVal (maps-is (Event.the-field .into) (Event′.the-field-laws .val) (ev .val) (λ x. refl) (z .raw) i) ∷ []))
 
 abbrev pub hm : Data Hm
-hm = with-val (data-of HeadSmall.the-type HeadSmall′.the-laws HeadSmall′.the-copy HeadSmall′.the-plain) (λ (z : HeadSmall). vstruct (ofList (he .val (z .answer) ∷ (array-data ev 128) .val (z .raw) ∷ []))) hm-same
+hm = with-val (data-of HeadSmall.the-type HeadSmall′.the-laws HeadSmall′.the-copy HeadSmall′.the-plain) (λ (z : HeadSmall). vstruct (ofList (he .val (z .answer) ∷ (array-data ev 256) .val (z .raw) ∷ []))) hm-same
 
 abbrev pub Rm : RattleType
 Rm = RowSmall.the-row
@@ -49,11 +49,11 @@ abbrev pub rm-ty : Ty
 rm-ty = RowSmall′.mir
 
 -- the machine value, with each array as the walk has it
-pub rm-same : (z : RowSmall) → LL.val RowSmall.the-type RowSmall′.the-laws z ≡ vstruct (ofList (ro .val (z .answer) ∷ (array-data ev 128) .val (z .raw) ∷ []))
+pub rm-same : (z : RowSmall) → LL.val RowSmall.the-type RowSmall′.the-laws z ≡ vstruct (ofList (ro .val (z .answer) ∷ (array-data ev 256) .val (z .raw) ∷ []))
 rm-same z = λ i. vstruct (ofList (ro .val (z .answer) ∷ arrayVal (maps-is (Event.the-field .into) (Event′.the-field-laws .val) (ev .val) (λ x. refl) (z .raw) i) ∷ []))
 
 abbrev pub rm : Data Rm
-rm = with-val (data-of RowSmall.the-type RowSmall′.the-laws RowSmall′.the-copy RowSmall′.the-plain) (λ (z : RowSmall). vstruct (ofList (ro .val (z .answer) ∷ (array-data ev 128) .val (z .raw) ∷ []))) rm-same
+rm = with-val (data-of RowSmall.the-type RowSmall′.the-laws RowSmall′.the-copy RowSmall′.the-plain) (λ (z : RowSmall). vstruct (ofList (ro .val (z .answer) ∷ (array-data ev 256) .val (z .raw) ∷ []))) rm-same
 
 abbrev pub Hg : RattleType
 Hg = HeadLong.the-row
@@ -77,23 +77,23 @@ rg = data-of RowLong.the-type RowLong′.the-laws RowLong′.the-copy RowLong′
 pub hm-answer : (z : HeadSmall) → Is Hm z (vals hm z) → Is He (z .answer) (vals he (z .answer))
 hm-answer z is = LL.owed HeadSmall.the-type HeadSmall′.the-laws z (vals hm z) is .0
 
-pub hm-raw : (z : HeadSmall) → Is Hm z (vals hm z) → Is (Array Ev 128) (z .raw) (vals (array-data ev 128) (z .raw))
-hm-raw z is = array-out ev (Event.the-field .row) (Event.the-field .into) (Event′.the-field-laws .val) (λ x p. p) (Event′.the-field-laws .tells) 128 (z .raw) _ (LL.owed HeadSmall.the-type HeadSmall′.the-laws z (vals hm z) is .1 .0)
+pub hm-raw : (z : HeadSmall) → Is Hm z (vals hm z) → Is (Array Ev 256) (z .raw) (vals (array-data ev 256) (z .raw))
+hm-raw z is = array-out ev (Event.the-field .row) (Event.the-field .into) (Event′.the-field-laws .val) (λ x p. p) (Event′.the-field-laws .tells) 256 (z .raw) _ (LL.owed HeadSmall.the-type HeadSmall′.the-laws z (vals hm z) is .1 .0)
 
 -- and a value whose fields fit
-pub hm-is : (z : HeadSmall) → Is He (z .answer) (vals he (z .answer)) → Is (Array Ev 128) (z .raw) (vals (array-data ev 128) (z .raw)) → Is Hm z (vals hm z)
-hm-is z p0 p1 = subst (λ (u : Val). Is Hm z (u ∷ [])) (hm-same z) (LL.owes HeadSmall.the-type HeadSmall′.the-laws z (p0, (array-in ev (Event.the-field .row) (Event.the-field .into) (Event′.the-field-laws .val) (λ x p. p) 128 (z .raw) p1, tt)))
+pub hm-is : (z : HeadSmall) → Is He (z .answer) (vals he (z .answer)) → Is (Array Ev 256) (z .raw) (vals (array-data ev 256) (z .raw)) → Is Hm z (vals hm z)
+hm-is z p0 p1 = subst (λ (u : Val). Is Hm z (u ∷ [])) (hm-same z) (LL.owes HeadSmall.the-type HeadSmall′.the-laws z (p0, (array-in ev (Event.the-field .row) (Event.the-field .into) (Event′.the-field-laws .val) (λ x p. p) 256 (z .raw) p1, tt)))
 
 -- the fields of a value of `RowSmall`
 pub rm-answer : (z : RowSmall) → Is Rm z (vals rm z) → Is Ro (z .answer) (vals ro (z .answer))
 rm-answer z is = LL.owed RowSmall.the-type RowSmall′.the-laws z (vals rm z) is .0
 
-pub rm-raw : (z : RowSmall) → Is Rm z (vals rm z) → Is (Array Ev 128) (z .raw) (vals (array-data ev 128) (z .raw))
-rm-raw z is = array-out ev (Event.the-field .row) (Event.the-field .into) (Event′.the-field-laws .val) (λ x p. p) (Event′.the-field-laws .tells) 128 (z .raw) _ (LL.owed RowSmall.the-type RowSmall′.the-laws z (vals rm z) is .1 .0)
+pub rm-raw : (z : RowSmall) → Is Rm z (vals rm z) → Is (Array Ev 256) (z .raw) (vals (array-data ev 256) (z .raw))
+rm-raw z is = array-out ev (Event.the-field .row) (Event.the-field .into) (Event′.the-field-laws .val) (λ x p. p) (Event′.the-field-laws .tells) 256 (z .raw) _ (LL.owed RowSmall.the-type RowSmall′.the-laws z (vals rm z) is .1 .0)
 
 -- and a value whose fields fit
-pub rm-is : (z : RowSmall) → Is Ro (z .answer) (vals ro (z .answer)) → Is (Array Ev 128) (z .raw) (vals (array-data ev 128) (z .raw)) → Is Rm z (vals rm z)
-rm-is z p0 p1 = subst (λ (u : Val). Is Rm z (u ∷ [])) (rm-same z) (LL.owes RowSmall.the-type RowSmall′.the-laws z (p0, (array-in ev (Event.the-field .row) (Event.the-field .into) (Event′.the-field-laws .val) (λ x p. p) 128 (z .raw) p1, tt)))
+pub rm-is : (z : RowSmall) → Is Ro (z .answer) (vals ro (z .answer)) → Is (Array Ev 256) (z .raw) (vals (array-data ev 256) (z .raw)) → Is Rm z (vals rm z)
+rm-is z p0 p1 = subst (λ (u : Val). Is Rm z (u ∷ [])) (rm-same z) (LL.owes RowSmall.the-type RowSmall′.the-laws z (p0, (array-in ev (Event.the-field .row) (Event.the-field .into) (Event′.the-field-laws .val) (λ x p. p) 256 (z .raw) p1, tt)))
 
 -- the fields of a value of `HeadLong`
 pub hg-answer : (z : HeadLong) → Is Hg z (vals hg z) → Is He (z .answer) (vals he (z .answer))

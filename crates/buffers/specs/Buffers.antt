@@ -1,4 +1,4 @@
--- What `head` and `row` answer, and what is then in an array of 128 slots whose first n were lent.
+-- What `head` and `row` answer, and what is then in an array of 256 slots whose first n were lent.
 use Prim.Native.Nat.{ℕ}
 use mathlib.Core.Bool.{Bool, cond}
 use mathlib.Core.List.{List, _++_}
@@ -29,9 +29,9 @@ module _ (s : List ℕ) (i : ℕ) (on stray : Bool) (n : ℕ) where
   abbrev pub headSmallWith : List Event → ℕ → HeadSmall
   headSmallWith xs m = record { answer = headOf s i on stray (leastOf n m); raw = headLeft xs }
 
-  -- a head with the first n of 128 slots
+  -- a head with the first n of 256 slots
   abbrev pub headSmallOf : HeadSmall
-  headSmallOf = headSmallWith (blanks 128) 128
+  headSmallOf = headSmallWith (blanks 256) 256
 
   abbrev pub headLongWith : ℕ → List Event → ℕ → HeadLong
   headLongWith at xs m = record { answer = headOf s i on stray (leastOf n m); event = eventAt (headLeft xs) at }
@@ -48,9 +48,9 @@ module _ (s : List ℕ) (i : ℕ) (lazy : Bool) (n : ℕ) where
   abbrev pub rowSmallWith : List Event → ℕ → RowSmall
   rowSmallWith xs m = record { answer = rowOf s i lazy (leastOf n m); raw = rowLeft xs }
 
-  -- a row with the first n of 128 slots
+  -- a row with the first n of 256 slots
   abbrev pub rowSmallOf : RowSmall
-  rowSmallOf = rowSmallWith (blanks 128) 128
+  rowSmallOf = rowSmallWith (blanks 256) 256
 
   abbrev pub rowLongWith : ℕ → List Event → ℕ → RowLong
   rowLongWith at xs m = record { answer = rowOf s i lazy (leastOf n m); event = eventAt (rowLeft xs) at }

@@ -14,13 +14,13 @@ ghost use Rattle.buffers.specs.Buffers.{leastOf, headLeft, headSmallOf, 
 // A head's answer, and an array whose first slots were lent.
 pub struct HeadSmall {
     pub answer: Head,
-    pub raw: [Event; 128],
+    pub raw: [Event; 256],
 }
 
 // A row's answer, and an array whose first slots were lent.
 pub struct RowSmall {
     pub answer: Row,
-    pub raw: [Event; 128],
+    pub raw: [Event; 256],
 }
 
 // A head's answer, and one of the slots that were lent.
@@ -61,7 +61,7 @@ pub fn head_front(
     head(sheet, offset, code_indented, lazy, pierced, &mut raw[..k])
 }
 
-// A head, with n slots, at most 128.
+// A head, with n slots, at most 256.
 pub fn head_small(
     sheet: &[u8],
     offset: usize,
@@ -72,7 +72,7 @@ pub fn head_small(
 ) -> HeadSmall
     ensures { λ r. ⌜ r ≡ headSmallOf (now (sheet .entry)) offset «code_indented» (lazy || pierced) n ⌝ }
 {
-    let mut raw = [Event::BLANK; 128];
+    let mut raw = [Event::BLANK; 256];
     let answer = head_front(sheet, offset, code_indented, lazy, pierced, n, &mut raw);
     HeadSmall {
         answer: answer,
@@ -109,11 +109,11 @@ pub fn row_front(sheet: &[u8], offset: usize, lazy: bool, n: usize, raw: &mut [E
     row(sheet, offset, lazy, &mut raw[..k])
 }
 
-// A row, with n slots, at most 128.
+// A row, with n slots, at most 256.
 pub fn row_small(sheet: &[u8], offset: usize, lazy: bool, n: usize) -> RowSmall
     ensures { λ r. ⌜ r ≡ rowSmallOf (now (sheet .entry)) offset lazy n ⌝ }
 {
-    let mut raw = [Event::BLANK; 128];
+    let mut raw = [Event::BLANK; 256];
     let answer = row_front(sheet, offset, lazy, n, &mut raw);
     RowSmall {
         answer: answer,

@@ -1,4 +1,7 @@
 // An answer, written to standard output.
+use edit_map::edit_map::Edited;
+use edit_map::infer::Aligned;
+use edit_map::resolve::Resolved;
 use gfm_table::calls::Head;
 use gfm_table::calls::Row;
 use libc::STDOUT_FILENO;
@@ -45,18 +48,18 @@ pub fn event(e: Event) {
 }
 
 // Whether a slot is blank.
-fn is_blank(e: Event) -> bool {
+pub fn is_blank(e: Event) -> bool {
     if e.kind != 0 || e.name != 0 || e.vs != 0 || e.link != 0 {
         return false;
     }
     e.line == 0 && e.column == 0 && e.index == 0
 }
 
-// How many of the first n slots stand up to the last that is not blank; none where n is above 128.
-fn used(raw: [Event; 128], n: usize) -> usize
-    ensures { λ r. ⌜ (r ≤ n) × (r ≤ 128) ⌝ }
+// How many of the first n slots stand up to the last that is not blank; none where n is above 256.
+fn used(raw: [Event; 256], n: usize) -> usize
+    ensures { λ r. ⌜ (r ≤ n) × (r ≤ 256) ⌝ }
 {
-    if 128 < n {
+    if 256 < n {
         return 0;
     }
     let mut m = n;
@@ -70,8 +73,8 @@ fn used(raw: [Event; 128], n: usize) -> usize
 }
 
 // The first m events.
-fn events(raw: [Event; 128], m: usize)
-    requires { ⌜ m ≤ 128 ⌝ }
+fn events(raw: [Event; 256], m: usize)
+    requires { ⌜ m ≤ 256 ⌝ }
 {
     let mut i = 0;
     while i < m {
@@ -80,8 +83,8 @@ fn events(raw: [Event; 128], m: usize)
     }
 }
 
-// The first n slots, at most 128: each up to the last that is not blank, and the number of those behind.
-pub fn slots(raw: [Event; 128], n: usize) {
+// The first n slots, at most 256: each up to the last that is not blank, and the number of those behind.
+pub fn slots(raw: [Event; 256], n: usize) {
     let m = used(raw, n);
     text(b" |");
     events(raw, m);
@@ -118,4 +121,77 @@ pub fn row(r: Row) {
             count(end);
         }
     }
+}
+
+// A number of records, or a refusal.
+fn counted(refusal: u8, n: usize) {
+    number(refusal as u64);
+    count(n);
+}
+
+// A resolver's number and events.
+pub fn resolved(r: Resolved) {
+    match r {
+        Resolved::Refused(k) => counted(k, 0),
+        Resolved::Accepted(n) => counted(0, n),
+    }
+}
+
+// An edit's number and events.
+pub fn edited(e: Edited) {
+    match e {
+        Edited::Refused(k) => counted(k, 0),
+        Edited::Accepted(n) => counted(0, n),
+    }
+}
+
+// The number and the alignments of a table.
+pub fn aligned(a: Aligned) {
+    match a {
+        Aligned::Refused(k) => counted(k, 0),
+        Aligned::Accepted(n) => counted(0, n),
+    }
+}
+
+// The first n numbers of an array, none where n is above 256.
+pub fn numbers(all: [usize; 256], n: usize) {
+    text(b" |");
+    if 256 < n {
+        return;
+    }
+    let mut i = 0;
+    while i < n {
+        count(all[i]);
+        i += 1;
+    }
+}
+
+// How many of the first n alignment slots stand up to the last that is not 0; none where n is above 256.
+fn used_alignments(all: [u8; 256], n: usize) -> usize
+    ensures { λ r. ⌜ (r ≤ n) × (r ≤ 256) ⌝ }
+{
+    if 256 < n {
+        return 0;
+    }
+    let mut m = n;
+    while 0 < m {
+        if all[m - 1] != 0 {
+            return m;
+        }
+        m -= 1;
+    }
+    m
+}
+
+// The first n alignment slots, at most 256, as `slots` writes events.
+pub fn alignments(all: [u8; 256], n: usize) {
+    let m = used_alignments(all, n);
+    text(b" |");
+    let mut i = 0;
+    while i < m {
+        count(all[i] as usize);
+        i += 1;
+    }
+    text(b" +");
+    number((n - m) as u64);
 }

@@ -5,8 +5,9 @@ ghost use lib.ListN.{length};
 ghost use Rattle.io.specs.Counts.{Counts};
 ghost use Rattle.protocol.specs.Words.{digitOf, pairOf, nextWord};
 
-// A number, or 0 where the word is unreadable, and where the next word starts.
+// Whether a number was readable, the number, or 0, and where the next word starts.
 pub struct ReadNumber {
+    pub good: bool,
     pub value: u64,
     pub next: usize,
 }
@@ -86,8 +87,19 @@ pub fn digit(b: u8) -> u64
     16
 }
 
-// A decimal number below 2^64, with a word behind it.
-pub fn number(line: &[u8], at: usize) -> ReadNumber
+// What an unreadable word gives.
+pub fn unreadable(line: &[u8]) -> ReadNumber
+    ensures { λ r. ⌜ (r .value ≡ 0) × (r .next ≤ length (now (line .entry))) ⌝ }
+{
+    ReadNumber {
+        good: false,
+        value: 0,
+        next: line.len(),
+    }
+}
+
+// Decimal digits from a place on, of a number below 2^64, and where they end.
+pub fn digits(line: &[u8], at: usize) -> ReadNumber
     ensures { λ r. ⌜ r .next ≤ length (now (line .entry)) ⌝ }
 {
     let mut value: u64 = 0;
@@ -98,23 +110,34 @@ pub fn number(line: &[u8], at: usize) -> ReadNumber
             break;
         }
         if (u64::MAX - d) / 10 < value {
-            return ReadNumber {
-                value: 0,
-                next: line.len(),
-            };
+            return unreadable(line);
         }
         value = value * 10 + d;
         i += 1;
     }
-    if i == at {
-        return ReadNumber {
-            value: 0,
-            next: line.len(),
-        };
+    if i == at || line.len() < i {
+        return unreadable(line);
     }
     ReadNumber {
+        good: true,
         value: value,
-        next: next_word(line, i),
+        next: i,
+    }
+}
+
+// A number that is a word.
+pub fn number(line: &[u8], at: usize) -> ReadNumber
+    ensures { λ r. ⌜ r .next ≤ length (now (line .entry)) ⌝ }
+{
+    let d = digits(line, at);
+    let next = next_word(line, d.next);
+    if !d.good || (next == line.len() && d.next != next) {
+        return unreadable(line);
+    }
+    ReadNumber {
+        good: true,
+        value: d.value,
+        next: next,
     }
 }
 

@@ -53,10 +53,10 @@ module _ {M : Type 1} (𝓤 : URA M) (H : Heap 𝓤) (A : Atoms 𝓤) (W : Given
 
     -- what each call returns, and what it leaves
     abbrev r1 : He .Denot
-    r1 = headOf sheet off on (lz || pc) (leastOf n (length (blanks 128)))
+    r1 = headOf sheet off on (lz || pc) (leastOf n (length (blanks 256)))
 
     abbrev a71 : List (Ev .Denot)
-    a71 = headSlots sheet off on (lz || pc) (leastOf n (length (blanks 128))) ++ dropN (leastOf n (length (blanks 128))) (blanks 128)
+    a71 = headSlots sheet off on (lz || pc) (leastOf n (length (blanks 256))) ++ dropN (leastOf n (length (blanks 256))) (blanks 256)
 
     module _ (𝓣 : Tables 𝓤 H) (known-head-front : Triple 𝓤 (𝓣 .C #buffers·head-front) (HeadFront′ 𝓤 H A mem run′)) (l₀ l₁ l₂ l₃ l₄ l₅ l₆ l₇ l₈ l₉ l₁₀ l₁₁ l₁₂ : ℕ) where
       abbrev C : Calls 𝓤 H
@@ -66,30 +66,30 @@ module _ {M : Type 1} (𝓤 : URA M) (H : Heap 𝓤) (A : Atoms 𝓤) (W : Given
       Λ = 𝓣 .Λ
 
       abbrev En : Env 𝓤 H
-      En = (hm-ty, l₀) ∷ (sliceTy (tyRef (named 0) imm (pointee (u8 .written))), l₁) ∷ (tyInt w64, l₂) ∷ (tyBool, l₃) ∷ (tyBool, l₄) ∷ (tyBool, l₅) ∷ (tyInt w64, l₆) ∷ (tyArray ev-ty 128, l₇) ∷ (he-ty, l₈) ∷ (ev-ty, l₉) ∷ (tyRef erased mut (pointee ((Array Ev 128) .written)), l₁₀) ∷ (sliceTy (tyRef erased mut (pointee (Ev .written))), l₁₁) ∷ (tyArray ev-ty 128, l₁₂) ∷ []
+      En = (hm-ty, l₀) ∷ (sliceTy (tyRef (named 0) imm (pointee (u8 .written))), l₁) ∷ (tyInt w64, l₂) ∷ (tyBool, l₃) ∷ (tyBool, l₄) ∷ (tyBool, l₅) ∷ (tyInt w64, l₆) ∷ (tyArray ev-ty 256, l₇) ∷ (he-ty, l₈) ∷ (ev-ty, l₉) ∷ (tyRef erased mut (pointee ((Array Ev 256) .written)), l₁₀) ∷ (sliceTy (tyRef erased mut (pointee (Ev .written))), l₁₁) ∷ (tyArray ev-ty 256, l₁₂) ∷ []
 
       -- the end of the body, by itself: there are fewer names there, and the check is quicker
-      leaves : (r : Hm .Denot) (r-ok : Is Hm r (vals hm r)) (said : r ≡ headSmallOf sheet off on (lz || pc) n) → Sq W (‵ (Shr u8 κ b o (length sheet) γ sheet) ∷ ‵ (flft κ q) ∷ ‵ (froom (tyArray ev-ty 128) l₁₂ 0) ∷ ‵ (fdies (tyArray ev-ty 128) l₁₂) ∷ ‵ (froom (sliceTy (tyRef erased mut (pointee (Ev .written)))) l₁₁ 0) ∷ ‵ (fdies (sliceTy (tyRef erased mut (pointee (Ev .written)))) l₁₁) ∷ ‵ (froom (tyRef erased mut (pointee ((Array Ev 128) .written))) l₁₀ 0) ∷ ‵ (fdies (tyRef erased mut (pointee ((Array Ev 128) .written))) l₁₀) ∷ ‵ (froom ev-ty l₉ 0) ∷ ‵ (fdies ev-ty l₉) ∷ ‵ (froom he-ty l₈ 0) ∷ ‵ (fdies he-ty l₈) ∷ ‵ (froom (tyArray ev-ty 128) l₇ 0) ∷ ‵ (fdies (tyArray ev-ty 128) l₇) ∷ ‵ (froom (tyInt w64) l₆ 0) ∷ ‵ (fdies (tyInt w64) l₆) ∷ ‵ (froom tyBool l₅ 0) ∷ ‵ (fdies tyBool l₅) ∷ ‵ (froom tyBool l₄ 0) ∷ ‵ (fdies tyBool l₄) ∷ ‵ (froom tyBool l₃ 0) ∷ ‵ (fdies tyBool l₃) ∷ ‵ (froom (tyInt w64) l₂ 0) ∷ ‵ (fdies (tyInt w64) l₂) ∷ ‵ (froom (sliceTy (tyRef (named 0) imm (pointee (u8 .written)))) l₁ 0) ∷ ‵ (fdies (sliceTy (tyRef (named 0) imm (pointee (u8 .written)))) l₁) ∷ ‵ (fat fullShare hm-ty l₀ 0 (hm .val r)) ∷ ‵ (fdies hm-ty l₀) ∷ []) (runs C Λ En code-mir.t-8 (atRet En Post))
+      leaves : (r : Hm .Denot) (r-ok : Is Hm r (vals hm r)) (said : r ≡ headSmallOf sheet off on (lz || pc) n) → Sq W (‵ (Shr u8 κ b o (length sheet) γ sheet) ∷ ‵ (flft κ q) ∷ ‵ (froom (tyArray ev-ty 256) l₁₂ 0) ∷ ‵ (fdies (tyArray ev-ty 256) l₁₂) ∷ ‵ (froom (sliceTy (tyRef erased mut (pointee (Ev .written)))) l₁₁ 0) ∷ ‵ (fdies (sliceTy (tyRef erased mut (pointee (Ev .written)))) l₁₁) ∷ ‵ (froom (tyRef erased mut (pointee ((Array Ev 256) .written))) l₁₀ 0) ∷ ‵ (fdies (tyRef erased mut (pointee ((Array Ev 256) .written))) l₁₀) ∷ ‵ (froom ev-ty l₉ 0) ∷ ‵ (fdies ev-ty l₉) ∷ ‵ (froom he-ty l₈ 0) ∷ ‵ (fdies he-ty l₈) ∷ ‵ (froom (tyArray ev-ty 256) l₇ 0) ∷ ‵ (fdies (tyArray ev-ty 256) l₇) ∷ ‵ (froom (tyInt w64) l₆ 0) ∷ ‵ (fdies (tyInt w64) l₆) ∷ ‵ (froom tyBool l₅ 0) ∷ ‵ (fdies tyBool l₅) ∷ ‵ (froom tyBool l₄ 0) ∷ ‵ (fdies tyBool l₄) ∷ ‵ (froom tyBool l₃ 0) ∷ ‵ (fdies tyBool l₃) ∷ ‵ (froom (tyInt w64) l₂ 0) ∷ ‵ (fdies (tyInt w64) l₂) ∷ ‵ (froom (sliceTy (tyRef (named 0) imm (pointee (u8 .written)))) l₁ 0) ∷ ‵ (fdies (sliceTy (tyRef (named 0) imm (pointee (u8 .written)))) l₁) ∷ ‵ (fat fullShare hm-ty l₀ 0 (hm .val r)) ∷ ‵ (fdies hm-ty l₀) ∷ []) (runs C Λ En code-mir.t-8 (atRet En Post))
       leaves r r-ok said =
           returns ! (look ! 26 refl) $ forget ! 26 refl $ move ! (26 ∷ 27 ∷ []) $ free1 ! $ move ! (24 ∷ 25 ∷ []) $ free1 ! $ move ! (22 ∷ 23 ∷ []) $ free1 ! $ move ! (20 ∷ 21 ∷ []) $ free1 ! $ move ! (18 ∷ 19 ∷ []) $ free1 ! $ move ! (16 ∷ 17 ∷ []) $ free1 ! $ move ! (14 ∷ 15 ∷ []) $ free1 ! $ move ! (12 ∷ 13 ∷ []) $ free1 ! $ move ! (10 ∷ 11 ∷ []) $ free1 ! $ move ! (8 ∷ 9 ∷ []) $ free1 ! $ move ! (6 ∷ 7 ∷ []) $ free1 ! $ move ! (4 ∷ 5 ∷ []) $ free1 ! $ move ! (2 ∷ 3 ∷ []) $ free1 ! $ free0 ! $ by ! (exits r r-ok said)
 
       -- the body, from the entry on
       -- _12: 2; _11: 4; _10: 6; _9: 8; _8: 10; _7: 12; _6: 14; _5: 16; _4: 18; _3: 20; _2: 22; _1: 24; _0: 26
-      body : Sq W (‵ (Shr u8 κ b o (length sheet) γ sheet) ∷ ‵ (flft κ q) ∷ ‵ (froom (tyArray ev-ty 128) l₁₂ 0) ∷ ‵ (fdies (tyArray ev-ty 128) l₁₂) ∷ ‵ (froom (sliceTy (tyRef erased mut (pointee (Ev .written)))) l₁₁ 0) ∷ ‵ (fdies (sliceTy (tyRef erased mut (pointee (Ev .written)))) l₁₁) ∷ ‵ (froom (tyRef erased mut (pointee ((Array Ev 128) .written))) l₁₀ 0) ∷ ‵ (fdies (tyRef erased mut (pointee ((Array Ev 128) .written))) l₁₀) ∷ ‵ (froom ev-ty l₉ 0) ∷ ‵ (fdies ev-ty l₉) ∷ ‵ (froom he-ty l₈ 0) ∷ ‵ (fdies he-ty l₈) ∷ ‵ (froom (tyArray ev-ty 128) l₇ 0) ∷ ‵ (fdies (tyArray ev-ty 128) l₇) ∷ ‵ (fat fullShare (tyInt w64) l₆ 0 (vint w64 n)) ∷ ‵ (fdies (tyInt w64) l₆) ∷ ‵ (fat fullShare tyBool l₅ 0 (bool-data .val pc)) ∷ ‵ (fdies tyBool l₅) ∷ ‵ (fat fullShare tyBool l₄ 0 (bool-data .val lz)) ∷ ‵ (fdies tyBool l₄) ∷ ‵ (fat fullShare tyBool l₃ 0 (bool-data .val on)) ∷ ‵ (fdies tyBool l₃) ∷ ‵ (fat fullShare (tyInt w64) l₂ 0 (vint w64 off)) ∷ ‵ (fdies (tyInt w64) l₂) ∷ ‵ (fat fullShare (sliceTy (tyRef (named 0) imm (pointee (u8 .written)))) l₁ 0 (sliceVal (b, o) (length sheet))) ∷ ‵ (fdies (sliceTy (tyRef (named 0) imm (pointee (u8 .written)))) l₁) ∷ ‵ (froom hm-ty l₀ 0) ∷ ‵ (fdies hm-ty l₀) ∷ []) (runs C Λ En code-mir.t-1 (atRet En Post))
+      body : Sq W (‵ (Shr u8 κ b o (length sheet) γ sheet) ∷ ‵ (flft κ q) ∷ ‵ (froom (tyArray ev-ty 256) l₁₂ 0) ∷ ‵ (fdies (tyArray ev-ty 256) l₁₂) ∷ ‵ (froom (sliceTy (tyRef erased mut (pointee (Ev .written)))) l₁₁ 0) ∷ ‵ (fdies (sliceTy (tyRef erased mut (pointee (Ev .written)))) l₁₁) ∷ ‵ (froom (tyRef erased mut (pointee ((Array Ev 256) .written))) l₁₀ 0) ∷ ‵ (fdies (tyRef erased mut (pointee ((Array Ev 256) .written))) l₁₀) ∷ ‵ (froom ev-ty l₉ 0) ∷ ‵ (fdies ev-ty l₉) ∷ ‵ (froom he-ty l₈ 0) ∷ ‵ (fdies he-ty l₈) ∷ ‵ (froom (tyArray ev-ty 256) l₇ 0) ∷ ‵ (fdies (tyArray ev-ty 256) l₇) ∷ ‵ (fat fullShare (tyInt w64) l₆ 0 (vint w64 n)) ∷ ‵ (fdies (tyInt w64) l₆) ∷ ‵ (fat fullShare tyBool l₅ 0 (bool-data .val pc)) ∷ ‵ (fdies tyBool l₅) ∷ ‵ (fat fullShare tyBool l₄ 0 (bool-data .val lz)) ∷ ‵ (fdies tyBool l₄) ∷ ‵ (fat fullShare tyBool l₃ 0 (bool-data .val on)) ∷ ‵ (fdies tyBool l₃) ∷ ‵ (fat fullShare (tyInt w64) l₂ 0 (vint w64 off)) ∷ ‵ (fdies (tyInt w64) l₂) ∷ ‵ (fat fullShare (sliceTy (tyRef (named 0) imm (pointee (u8 .written)))) l₁ 0 (sliceVal (b, o) (length sheet))) ∷ ‵ (fdies (sliceTy (tyRef (named 0) imm (pointee (u8 .written)))) l₁) ∷ ‵ (froom hm-ty l₀ 0) ∷ ‵ (fdies hm-ty l₀) ∷ []) (runs C Λ En code-mir.t-1 (atRet En Post))
       body =
           assigns ! (agg ! (and-then ! (lit ! tt) (and-then ! (lit ! tt) (and-then ! (lit ! tt) (and-then ! (lit ! tt) (and-then ! (lit ! tt) (and-then ! (lit ! tt) (and-then ! (lit ! tt) (no-more !))))))))) (from ! (stop !)) (init ! 8 refl (typed ev W (record { kind = 0; name = 0; line = 0; column = 0; index = 0; vs = 0; link = 0 }) (ev-is (record { kind = 0; name = 0; line = 0; column = 0; index = 0; vs = 0; link = 0 }) (refl, lit< tt) (refl, lit< tt) (refl, lit< tt) (refl, lit< tt) (refl, lit< tt) (refl, lit< tt) (refl, lit< tt)) .0)) $  -- _9 := {0u8, 0u8, 0u32, 0u32, 0u32, 0u8, 0u8}
-          assigns ! (rep ! 128 (load ! (from ! (stop !)) (look ! 8 refl))) (from ! (stop !)) (init ! 12 refl (typed (array-data ev 128) W (replicate 128 (record { kind = 0; name = 0; line = 0; column = 0; index = 0; vs = 0; link = 0 })) (repeat-is ev 128 (record { kind = 0; name = 0; line = 0; column = 0; index = 0; vs = 0; link = 0 }) (ev-is (record { kind = 0; name = 0; line = 0; column = 0; index = 0; vs = 0; link = 0 }) (refl, lit< tt) (refl, lit< tt) (refl, lit< tt) (refl, lit< tt) (refl, lit< tt) (refl, lit< tt) (refl, lit< tt))) .0)) $  -- _7 := ['repeat', ['copy', ['place', '9', 'lnil']], '128']
+          assigns ! (rep ! 256 (load ! (from ! (stop !)) (look ! 8 refl))) (from ! (stop !)) (init ! 12 refl (typed (array-data ev 256) W (replicate 256 (record { kind = 0; name = 0; line = 0; column = 0; index = 0; vs = 0; link = 0 })) (repeat-is ev 256 (record { kind = 0; name = 0; line = 0; column = 0; index = 0; vs = 0; link = 0 }) (ev-is (record { kind = 0; name = 0; line = 0; column = 0; index = 0; vs = 0; link = 0 }) (refl, lit< tt) (refl, lit< tt) (refl, lit< tt) (refl, lit< tt) (refl, lit< tt) (refl, lit< tt) (refl, lit< tt))) .0)) $  -- _7 := ['repeat', ['copy', ['place', '9', 'lnil']], '256']
           assigns ! (addr ! (from ! (stop !))) (from ! (stop !)) (init ! 6 refl (tt, tt)) $  -- _10 := &_7
           assigns ! (agg ! (and-then ! (load ! (from ! (stop !)) (look ! 6 refl)) (and-then ! (lit ! tt) (no-more !)))) (from ! (stop !)) (init ! 4 refl (tt, (tt, (record { fits = lit< tt }, tt)))) $  -- _11 := {_10, 128u64}
           -- _8 := head_front(_1, _2, _3, _4, _5, _6, _11)
-          copies ! u8 sheet b o _ $ move ! (13 ∷ []) $ lends-array ev ! tt tt 128 (replicate 128 (record { kind = 0; name = 0; line = 0; column = 0; index = 0; vs = 0; link = 0 })) l₇ (repeat-is ev 128 (record { kind = 0; name = 0; line = 0; column = 0; index = 0; vs = 0; link = 0 }) (ev-is (record { kind = 0; name = 0; line = 0; column = 0; index = 0; vs = 0; link = 0 }) (refl, lit< tt) (refl, lit< tt) (refl, lit< tt) (refl, lit< tt) (refl, lit< tt) (refl, lit< tt) (refl, lit< tt))) (lit< tt, lit< tt) (λ ν1g δ1g. move ! (3 ∷ 5 ∷ 0 ∷ 1 ∷ []) $
-          cut (‵ (Shr u8 κ b o (length sheet) γ sheet) ∷ ‵ (flft κ q) ∷ ‵ (Mut Ev (ν1g ∷ []) l₇ 0 128 δ1g (replicate 128 (record { kind = 0; name = 0; line = 0; column = 0; index = 0; vs = 0; link = 0 }))) ∷ ‵ (flft (ν1g ∷ []) fullShare) ∷ []) (raw (HeadFront′ 𝓤 H A mem run′ .pre (to-head-front κ q b o (length sheet) γ sheet off on lz pc n (ν1g ∷ []) fullShare l₇ 0 128 δ1g (replicate 128 (record { kind = 0; name = 0; line = 0; column = 0; index = 0; vs = 0; link = 0 })))) ∷ []) _ (asks-head-front κ q b o (length sheet) γ sheet off on lz pc n (ν1g ∷ []) fullShare l₇ 0 128 δ1g (replicate 128 (record { kind = 0; name = 0; line = 0; column = 0; index = 0; vs = 0; link = 0 })) (refl, off-fits) on-ok lz-ok pc-ok (refl, n-fits)) $
-          calls-with ! (fmOf 𝓤 H (W .laws) 𝓣) head-front.ended (head-front.clauses 𝓤 H A mem run′) known-head-front (to-head-front κ q b o (length sheet) γ sheet off on lz pc n (ν1g ∷ []) fullShare l₇ 0 128 δ1g (replicate 128 (record { kind = 0; name = 0; line = 0; column = 0; index = 0; vs = 0; link = 0 }))) he r1 (λ ws. ws .1 .1 .1 .1 .1 .1 .0 ≡ a71) (λ r ws. id⊢ 𝓤 _) (and-then ! (load ! (from ! (stop !)) (look ! 24 refl)) (and-then ! (load ! (from ! (stop !)) (look ! 22 refl)) (and-then ! (load ! (from ! (stop !)) (look ! 20 refl)) (and-then ! (load ! (from ! (stop !)) (look ! 18 refl)) (and-then ! (load ! (from ! (stop !)) (look ! 16 refl)) (and-then ! (load ! (from ! (stop !)) (look ! 14 refl)) (and-then ! (load ! (from ! (stop !)) (look ! 5 refl)) (no-more !)))))))) (λ ok1 ws1 e1.
-          fsplit ! $ drop ! $ fsplit ! $ drop ! $ fsplit ! $ drop ! $ fsplit ! $ drop ! $ fsplit ! $ drop ! $ fsplit ! $ drop ! $ fsplit ! $ fsplit ! $ move ! (1 ∷ []) $ feqL ! (λ len1g. move ! (1 ∷ []) $ drop ! $ move ! (1 ∷ []) $ use1 W (‵ (flft κ q) ⊛ (‵ (flft (ν1g ∷ []) fullShare) ⊛ ‵ ftrue)) (id⊢ 𝓤 _) $ split ! $ move ! (1 ∷ []) $ split ! $ move ! (1 ∷ []) $ drop ! $ move ! (0 ∷ 3 ∷ 2 ∷ []) $ array-home ev ! tt 128 (replicate 128 (record { kind = 0; name = 0; line = 0; column = 0; index = 0; vs = 0; link = 0 })) (ws1 .1 .1 .1 .1 .1 .1 .0) a71 l₇ (repeat-is ev 128 (record { kind = 0; name = 0; line = 0; column = 0; index = 0; vs = 0; link = 0 }) (ev-is (record { kind = 0; name = 0; line = 0; column = 0; index = 0; vs = 0; link = 0 }) (refl, lit< tt) (refl, lit< tt) (refl, lit< tt) (refl, lit< tt) (refl, lit< tt) (refl, lit< tt) (refl, lit< tt))) len1g e1 (λ a71-ok.
+          copies ! u8 sheet b o _ $ move ! (13 ∷ []) $ lends-array ev ! tt tt 256 (replicate 256 (record { kind = 0; name = 0; line = 0; column = 0; index = 0; vs = 0; link = 0 })) l₇ (repeat-is ev 256 (record { kind = 0; name = 0; line = 0; column = 0; index = 0; vs = 0; link = 0 }) (ev-is (record { kind = 0; name = 0; line = 0; column = 0; index = 0; vs = 0; link = 0 }) (refl, lit< tt) (refl, lit< tt) (refl, lit< tt) (refl, lit< tt) (refl, lit< tt) (refl, lit< tt) (refl, lit< tt))) (lit< tt, lit< tt) (λ ν1g δ1g. move ! (3 ∷ 5 ∷ 0 ∷ 1 ∷ []) $
+          cut (‵ (Shr u8 κ b o (length sheet) γ sheet) ∷ ‵ (flft κ q) ∷ ‵ (Mut Ev (ν1g ∷ []) l₇ 0 256 δ1g (replicate 256 (record { kind = 0; name = 0; line = 0; column = 0; index = 0; vs = 0; link = 0 }))) ∷ ‵ (flft (ν1g ∷ []) fullShare) ∷ []) (raw (HeadFront′ 𝓤 H A mem run′ .pre (to-head-front κ q b o (length sheet) γ sheet off on lz pc n (ν1g ∷ []) fullShare l₇ 0 256 δ1g (replicate 256 (record { kind = 0; name = 0; line = 0; column = 0; index = 0; vs = 0; link = 0 })))) ∷ []) _ (asks-head-front κ q b o (length sheet) γ sheet off on lz pc n (ν1g ∷ []) fullShare l₇ 0 256 δ1g (replicate 256 (record { kind = 0; name = 0; line = 0; column = 0; index = 0; vs = 0; link = 0 })) (refl, off-fits) on-ok lz-ok pc-ok (refl, n-fits)) $
+          calls-with ! (fmOf 𝓤 H (W .laws) 𝓣) head-front.ended (head-front.clauses 𝓤 H A mem run′) known-head-front (to-head-front κ q b o (length sheet) γ sheet off on lz pc n (ν1g ∷ []) fullShare l₇ 0 256 δ1g (replicate 256 (record { kind = 0; name = 0; line = 0; column = 0; index = 0; vs = 0; link = 0 }))) he r1 (λ ws. ws .1 .1 .1 .1 .1 .1 .0 ≡ a71) (λ r ws. id⊢ 𝓤 _) (and-then ! (load ! (from ! (stop !)) (look ! 24 refl)) (and-then ! (load ! (from ! (stop !)) (look ! 22 refl)) (and-then ! (load ! (from ! (stop !)) (look ! 20 refl)) (and-then ! (load ! (from ! (stop !)) (look ! 18 refl)) (and-then ! (load ! (from ! (stop !)) (look ! 16 refl)) (and-then ! (load ! (from ! (stop !)) (look ! 14 refl)) (and-then ! (load ! (from ! (stop !)) (look ! 5 refl)) (no-more !)))))))) (λ ok1 ws1 e1.
+          fsplit ! $ drop ! $ fsplit ! $ drop ! $ fsplit ! $ drop ! $ fsplit ! $ drop ! $ fsplit ! $ drop ! $ fsplit ! $ drop ! $ fsplit ! $ fsplit ! $ move ! (1 ∷ []) $ feqL ! (λ len1g. move ! (1 ∷ []) $ drop ! $ move ! (1 ∷ []) $ use1 W (‵ (flft κ q) ⊛ (‵ (flft (ν1g ∷ []) fullShare) ⊛ ‵ ftrue)) (id⊢ 𝓤 _) $ split ! $ move ! (1 ∷ []) $ split ! $ move ! (1 ∷ []) $ drop ! $ move ! (0 ∷ 3 ∷ 2 ∷ []) $ array-home ev ! tt 256 (replicate 256 (record { kind = 0; name = 0; line = 0; column = 0; index = 0; vs = 0; link = 0 })) (ws1 .1 .1 .1 .1 .1 .1 .0) a71 l₇ (repeat-is ev 256 (record { kind = 0; name = 0; line = 0; column = 0; index = 0; vs = 0; link = 0 }) (ev-is (record { kind = 0; name = 0; line = 0; column = 0; index = 0; vs = 0; link = 0 }) (refl, lit< tt) (refl, lit< tt) (refl, lit< tt) (refl, lit< tt) (refl, lit< tt) (refl, lit< tt) (refl, lit< tt))) len1g e1 (λ a71-ok.
           land ! (from ! (stop !)) (init ! 11 refl (typed he W r1 ok1 .0)) $
-          assigns ! (of-opd ! (load ! (from ! (stop !)) (look ! 0 refl))) (from ! (stop !)) (init ! 3 refl (typed (array-data ev 128) W a71 a71-ok .0)) $  -- _12 := _7
+          assigns ! (of-opd ! (load ! (from ! (stop !)) (look ! 0 refl))) (from ! (stop !)) (init ! 3 refl (typed (array-data ev 256) W a71 a71-ok .0)) $  -- _12 := _7
           assigns ! (agg ! (and-then ! (load ! (from ! (stop !)) (look ! 11 refl)) (and-then ! (load ! (from ! (stop !)) (look ! 3 refl)) (no-more !)))) (from ! (stop !)) (init ! 26 refl (typed hm W (record { answer = r1; raw = a71 }) (hm-is (record { answer = r1; raw = a71 }) ok1 a71-ok) .0)) $  -- _0 := {_8, _12}
-          move ! (2 ∷ 1 ∷ 3 ∷ 4 ∷ 5 ∷ 6 ∷ 7 ∷ 8 ∷ 9 ∷ 10 ∷ 11 ∷ 12 ∷ 0 ∷ []) $ forget ! 2 refl $ forget ! 4 refl $ forget ! 6 refl $ forget ! 8 refl $ forget ! 10 refl $ forget ! 12 refl $ forget ! 14 refl $ forget ! 16 refl $ forget ! 18 refl $ forget ! 20 refl $ forget ! 22 refl $ forget ! 24 refl $ leaves (record { answer = r1; raw = a71 }) (hm-is (record { answer = r1; raw = a71 }) ok1 a71-ok) (ap (λ (m : ℕ). headSmallWith sheet off on (lz || pc) n (blanks 128) m) (length-replicate 128 blankEvent))))))
+          move ! (2 ∷ 1 ∷ 3 ∷ 4 ∷ 5 ∷ 6 ∷ 7 ∷ 8 ∷ 9 ∷ 10 ∷ 11 ∷ 12 ∷ 0 ∷ []) $ forget ! 2 refl $ forget ! 4 refl $ forget ! 6 refl $ forget ! 8 refl $ forget ! 10 refl $ forget ! 12 refl $ forget ! 14 refl $ forget ! 16 refl $ forget ! 18 refl $ forget ! 20 refl $ forget ! 22 refl $ forget ! 24 refl $ leaves (record { answer = r1; raw = a71 }) (hm-is (record { answer = r1; raw = a71 }) ok1 a71-ok) (ap (λ (m : ℕ). headSmallWith sheet off on (lz || pc) n (blanks 256) m) (length-replicate 256 blankEvent))))))
 
     walk : (𝓣 : Tables 𝓤 H) (known-head-front : Triple 𝓤 (𝓣 .C #buffers·head-front) (HeadFront′ 𝓤 H A mem run′)) → ent 𝓤 (onEntry 𝓤 H A head-small.signature (κ, tt) (q, tt) x vs) (WpFn 𝓤 H (𝓣 .C) (𝓣 .Λ) code.function (sliceVal (b, o) (length sheet) ∷ vint w64 off ∷ bool-data .val on ∷ bool-data .val lz ∷ bool-data .val pc ∷ vint w64 n ∷ []) Post)
     walk 𝓣 known-head-front =

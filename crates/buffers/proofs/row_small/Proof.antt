@@ -53,10 +53,10 @@ module _ {M : Type 1} (𝓤 : URA M) (H : Heap 𝓤) (A : Atoms 𝓤) (W : Given
 
     -- what each call returns, and what it leaves
     abbrev r1 : Ro .Denot
-    r1 = rowOf sheet off lz (leastOf n (length (blanks 128)))
+    r1 = rowOf sheet off lz (leastOf n (length (blanks 256)))
 
     abbrev a51 : List (Ev .Denot)
-    a51 = rowSlots sheet off lz (leastOf n (length (blanks 128))) ++ dropN (leastOf n (length (blanks 128))) (blanks 128)
+    a51 = rowSlots sheet off lz (leastOf n (length (blanks 256))) ++ dropN (leastOf n (length (blanks 256))) (blanks 256)
 
     module _ (𝓣 : Tables 𝓤 H) (known-row-front : Triple 𝓤 (𝓣 .C #buffers·row-front) (RowFront′ 𝓤 H A mem run′)) (l₀ l₁ l₂ l₃ l₄ l₅ l₆ l₇ l₈ l₉ l₁₀ : ℕ) where
       abbrev C : Calls 𝓤 H
@@ -66,26 +66,26 @@ module _ {M : Type 1} (𝓤 : URA M) (H : Heap 𝓤) (A : Atoms 𝓤) (W : Given
       Λ = 𝓣 .Λ
 
       abbrev En : Env 𝓤 H
-      En = (rm-ty, l₀) ∷ (sliceTy (tyRef (named 0) imm (pointee (u8 .written))), l₁) ∷ (tyInt w64, l₂) ∷ (tyBool, l₃) ∷ (tyInt w64, l₄) ∷ (tyArray ev-ty 128, l₅) ∷ (ro-ty, l₆) ∷ (ev-ty, l₇) ∷ (tyRef erased mut (pointee ((Array Ev 128) .written)), l₈) ∷ (sliceTy (tyRef erased mut (pointee (Ev .written))), l₉) ∷ (tyArray ev-ty 128, l₁₀) ∷ []
+      En = (rm-ty, l₀) ∷ (sliceTy (tyRef (named 0) imm (pointee (u8 .written))), l₁) ∷ (tyInt w64, l₂) ∷ (tyBool, l₃) ∷ (tyInt w64, l₄) ∷ (tyArray ev-ty 256, l₅) ∷ (ro-ty, l₆) ∷ (ev-ty, l₇) ∷ (tyRef erased mut (pointee ((Array Ev 256) .written)), l₈) ∷ (sliceTy (tyRef erased mut (pointee (Ev .written))), l₉) ∷ (tyArray ev-ty 256, l₁₀) ∷ []
 
       -- the body, from the entry on
       -- _10: 2; _9: 4; _8: 6; _7: 8; _6: 10; _5: 12; _4: 14; _3: 16; _2: 18; _1: 20; _0: 22
-      body : Sq W (‵ (Shr u8 κ b o (length sheet) γ sheet) ∷ ‵ (flft κ q) ∷ ‵ (froom (tyArray ev-ty 128) l₁₀ 0) ∷ ‵ (fdies (tyArray ev-ty 128) l₁₀) ∷ ‵ (froom (sliceTy (tyRef erased mut (pointee (Ev .written)))) l₉ 0) ∷ ‵ (fdies (sliceTy (tyRef erased mut (pointee (Ev .written)))) l₉) ∷ ‵ (froom (tyRef erased mut (pointee ((Array Ev 128) .written))) l₈ 0) ∷ ‵ (fdies (tyRef erased mut (pointee ((Array Ev 128) .written))) l₈) ∷ ‵ (froom ev-ty l₇ 0) ∷ ‵ (fdies ev-ty l₇) ∷ ‵ (froom ro-ty l₆ 0) ∷ ‵ (fdies ro-ty l₆) ∷ ‵ (froom (tyArray ev-ty 128) l₅ 0) ∷ ‵ (fdies (tyArray ev-ty 128) l₅) ∷ ‵ (fat fullShare (tyInt w64) l₄ 0 (vint w64 n)) ∷ ‵ (fdies (tyInt w64) l₄) ∷ ‵ (fat fullShare tyBool l₃ 0 (bool-data .val lz)) ∷ ‵ (fdies tyBool l₃) ∷ ‵ (fat fullShare (tyInt w64) l₂ 0 (vint w64 off)) ∷ ‵ (fdies (tyInt w64) l₂) ∷ ‵ (fat fullShare (sliceTy (tyRef (named 0) imm (pointee (u8 .written)))) l₁ 0 (sliceVal (b, o) (length sheet))) ∷ ‵ (fdies (sliceTy (tyRef (named 0) imm (pointee (u8 .written)))) l₁) ∷ ‵ (froom rm-ty l₀ 0) ∷ ‵ (fdies rm-ty l₀) ∷ []) (runs C Λ En code-mir.t-1 (atRet En Post))
+      body : Sq W (‵ (Shr u8 κ b o (length sheet) γ sheet) ∷ ‵ (flft κ q) ∷ ‵ (froom (tyArray ev-ty 256) l₁₀ 0) ∷ ‵ (fdies (tyArray ev-ty 256) l₁₀) ∷ ‵ (froom (sliceTy (tyRef erased mut (pointee (Ev .written)))) l₉ 0) ∷ ‵ (fdies (sliceTy (tyRef erased mut (pointee (Ev .written)))) l₉) ∷ ‵ (froom (tyRef erased mut (pointee ((Array Ev 256) .written))) l₈ 0) ∷ ‵ (fdies (tyRef erased mut (pointee ((Array Ev 256) .written))) l₈) ∷ ‵ (froom ev-ty l₇ 0) ∷ ‵ (fdies ev-ty l₇) ∷ ‵ (froom ro-ty l₆ 0) ∷ ‵ (fdies ro-ty l₆) ∷ ‵ (froom (tyArray ev-ty 256) l₅ 0) ∷ ‵ (fdies (tyArray ev-ty 256) l₅) ∷ ‵ (fat fullShare (tyInt w64) l₄ 0 (vint w64 n)) ∷ ‵ (fdies (tyInt w64) l₄) ∷ ‵ (fat fullShare tyBool l₃ 0 (bool-data .val lz)) ∷ ‵ (fdies tyBool l₃) ∷ ‵ (fat fullShare (tyInt w64) l₂ 0 (vint w64 off)) ∷ ‵ (fdies (tyInt w64) l₂) ∷ ‵ (fat fullShare (sliceTy (tyRef (named 0) imm (pointee (u8 .written)))) l₁ 0 (sliceVal (b, o) (length sheet))) ∷ ‵ (fdies (sliceTy (tyRef (named 0) imm (pointee (u8 .written)))) l₁) ∷ ‵ (froom rm-ty l₀ 0) ∷ ‵ (fdies rm-ty l₀) ∷ []) (runs C Λ En code-mir.t-1 (atRet En Post))
       body =
           assigns ! (agg ! (and-then ! (lit ! tt) (and-then ! (lit ! tt) (and-then ! (lit ! tt) (and-then ! (lit ! tt) (and-then ! (lit ! tt) (and-then ! (lit ! tt) (and-then ! (lit ! tt) (no-more !))))))))) (from ! (stop !)) (init ! 8 refl (typed ev W (record { kind = 0; name = 0; line = 0; column = 0; index = 0; vs = 0; link = 0 }) (ev-is (record { kind = 0; name = 0; line = 0; column = 0; index = 0; vs = 0; link = 0 }) (refl, lit< tt) (refl, lit< tt) (refl, lit< tt) (refl, lit< tt) (refl, lit< tt) (refl, lit< tt) (refl, lit< tt)) .0)) $  -- _7 := {0u8, 0u8, 0u32, 0u32, 0u32, 0u8, 0u8}
-          assigns ! (rep ! 128 (load ! (from ! (stop !)) (look ! 8 refl))) (from ! (stop !)) (init ! 12 refl (typed (array-data ev 128) W (replicate 128 (record { kind = 0; name = 0; line = 0; column = 0; index = 0; vs = 0; link = 0 })) (repeat-is ev 128 (record { kind = 0; name = 0; line = 0; column = 0; index = 0; vs = 0; link = 0 }) (ev-is (record { kind = 0; name = 0; line = 0; column = 0; index = 0; vs = 0; link = 0 }) (refl, lit< tt) (refl, lit< tt) (refl, lit< tt) (refl, lit< tt) (refl, lit< tt) (refl, lit< tt) (refl, lit< tt))) .0)) $  -- _5 := ['repeat', ['copy', ['place', '7', 'lnil']], '128']
+          assigns ! (rep ! 256 (load ! (from ! (stop !)) (look ! 8 refl))) (from ! (stop !)) (init ! 12 refl (typed (array-data ev 256) W (replicate 256 (record { kind = 0; name = 0; line = 0; column = 0; index = 0; vs = 0; link = 0 })) (repeat-is ev 256 (record { kind = 0; name = 0; line = 0; column = 0; index = 0; vs = 0; link = 0 }) (ev-is (record { kind = 0; name = 0; line = 0; column = 0; index = 0; vs = 0; link = 0 }) (refl, lit< tt) (refl, lit< tt) (refl, lit< tt) (refl, lit< tt) (refl, lit< tt) (refl, lit< tt) (refl, lit< tt))) .0)) $  -- _5 := ['repeat', ['copy', ['place', '7', 'lnil']], '256']
           assigns ! (addr ! (from ! (stop !))) (from ! (stop !)) (init ! 6 refl (tt, tt)) $  -- _8 := &_5
           assigns ! (agg ! (and-then ! (load ! (from ! (stop !)) (look ! 6 refl)) (and-then ! (lit ! tt) (no-more !)))) (from ! (stop !)) (init ! 4 refl (tt, (tt, (record { fits = lit< tt }, tt)))) $  -- _9 := {_8, 128u64}
           -- _6 := row_front(_1, _2, _3, _4, _9)
-          copies ! u8 sheet b o _ $ move ! (13 ∷ []) $ lends-array ev ! tt tt 128 (replicate 128 (record { kind = 0; name = 0; line = 0; column = 0; index = 0; vs = 0; link = 0 })) l₅ (repeat-is ev 128 (record { kind = 0; name = 0; line = 0; column = 0; index = 0; vs = 0; link = 0 }) (ev-is (record { kind = 0; name = 0; line = 0; column = 0; index = 0; vs = 0; link = 0 }) (refl, lit< tt) (refl, lit< tt) (refl, lit< tt) (refl, lit< tt) (refl, lit< tt) (refl, lit< tt) (refl, lit< tt))) (lit< tt, lit< tt) (λ ν1e δ1e. move ! (3 ∷ 5 ∷ 0 ∷ 1 ∷ []) $
-          cut (‵ (Shr u8 κ b o (length sheet) γ sheet) ∷ ‵ (flft κ q) ∷ ‵ (Mut Ev (ν1e ∷ []) l₅ 0 128 δ1e (replicate 128 (record { kind = 0; name = 0; line = 0; column = 0; index = 0; vs = 0; link = 0 }))) ∷ ‵ (flft (ν1e ∷ []) fullShare) ∷ []) (raw (RowFront′ 𝓤 H A mem run′ .pre (to-row-front κ q b o (length sheet) γ sheet off lz n (ν1e ∷ []) fullShare l₅ 0 128 δ1e (replicate 128 (record { kind = 0; name = 0; line = 0; column = 0; index = 0; vs = 0; link = 0 })))) ∷ []) _ (asks-row-front κ q b o (length sheet) γ sheet off lz n (ν1e ∷ []) fullShare l₅ 0 128 δ1e (replicate 128 (record { kind = 0; name = 0; line = 0; column = 0; index = 0; vs = 0; link = 0 })) (refl, off-fits) lz-ok (refl, n-fits)) $
-          calls-with ! (fmOf 𝓤 H (W .laws) 𝓣) row-front.ended (row-front.clauses 𝓤 H A mem run′) known-row-front (to-row-front κ q b o (length sheet) γ sheet off lz n (ν1e ∷ []) fullShare l₅ 0 128 δ1e (replicate 128 (record { kind = 0; name = 0; line = 0; column = 0; index = 0; vs = 0; link = 0 }))) ro r1 (λ ws. ws .1 .1 .1 .1 .0 ≡ a51) (λ r ws. id⊢ 𝓤 _) (and-then ! (load ! (from ! (stop !)) (look ! 20 refl)) (and-then ! (load ! (from ! (stop !)) (look ! 18 refl)) (and-then ! (load ! (from ! (stop !)) (look ! 16 refl)) (and-then ! (load ! (from ! (stop !)) (look ! 14 refl)) (and-then ! (load ! (from ! (stop !)) (look ! 5 refl)) (no-more !)))))) (λ ok1 ws1 e1.
-          fsplit ! $ drop ! $ fsplit ! $ drop ! $ fsplit ! $ drop ! $ fsplit ! $ drop ! $ fsplit ! $ fsplit ! $ move ! (1 ∷ []) $ feqL ! (λ len1e. move ! (1 ∷ []) $ drop ! $ move ! (1 ∷ []) $ use1 W (‵ (flft κ q) ⊛ (‵ (flft (ν1e ∷ []) fullShare) ⊛ ‵ ftrue)) (id⊢ 𝓤 _) $ split ! $ move ! (1 ∷ []) $ split ! $ move ! (1 ∷ []) $ drop ! $ move ! (0 ∷ 3 ∷ 2 ∷ []) $ array-home ev ! tt 128 (replicate 128 (record { kind = 0; name = 0; line = 0; column = 0; index = 0; vs = 0; link = 0 })) (ws1 .1 .1 .1 .1 .0) a51 l₅ (repeat-is ev 128 (record { kind = 0; name = 0; line = 0; column = 0; index = 0; vs = 0; link = 0 }) (ev-is (record { kind = 0; name = 0; line = 0; column = 0; index = 0; vs = 0; link = 0 }) (refl, lit< tt) (refl, lit< tt) (refl, lit< tt) (refl, lit< tt) (refl, lit< tt) (refl, lit< tt) (refl, lit< tt))) len1e e1 (λ a51-ok.
+          copies ! u8 sheet b o _ $ move ! (13 ∷ []) $ lends-array ev ! tt tt 256 (replicate 256 (record { kind = 0; name = 0; line = 0; column = 0; index = 0; vs = 0; link = 0 })) l₅ (repeat-is ev 256 (record { kind = 0; name = 0; line = 0; column = 0; index = 0; vs = 0; link = 0 }) (ev-is (record { kind = 0; name = 0; line = 0; column = 0; index = 0; vs = 0; link = 0 }) (refl, lit< tt) (refl, lit< tt) (refl, lit< tt) (refl, lit< tt) (refl, lit< tt) (refl, lit< tt) (refl, lit< tt))) (lit< tt, lit< tt) (λ ν1e δ1e. move ! (3 ∷ 5 ∷ 0 ∷ 1 ∷ []) $
+          cut (‵ (Shr u8 κ b o (length sheet) γ sheet) ∷ ‵ (flft κ q) ∷ ‵ (Mut Ev (ν1e ∷ []) l₅ 0 256 δ1e (replicate 256 (record { kind = 0; name = 0; line = 0; column = 0; index = 0; vs = 0; link = 0 }))) ∷ ‵ (flft (ν1e ∷ []) fullShare) ∷ []) (raw (RowFront′ 𝓤 H A mem run′ .pre (to-row-front κ q b o (length sheet) γ sheet off lz n (ν1e ∷ []) fullShare l₅ 0 256 δ1e (replicate 256 (record { kind = 0; name = 0; line = 0; column = 0; index = 0; vs = 0; link = 0 })))) ∷ []) _ (asks-row-front κ q b o (length sheet) γ sheet off lz n (ν1e ∷ []) fullShare l₅ 0 256 δ1e (replicate 256 (record { kind = 0; name = 0; line = 0; column = 0; index = 0; vs = 0; link = 0 })) (refl, off-fits) lz-ok (refl, n-fits)) $
+          calls-with ! (fmOf 𝓤 H (W .laws) 𝓣) row-front.ended (row-front.clauses 𝓤 H A mem run′) known-row-front (to-row-front κ q b o (length sheet) γ sheet off lz n (ν1e ∷ []) fullShare l₅ 0 256 δ1e (replicate 256 (record { kind = 0; name = 0; line = 0; column = 0; index = 0; vs = 0; link = 0 }))) ro r1 (λ ws. ws .1 .1 .1 .1 .0 ≡ a51) (λ r ws. id⊢ 𝓤 _) (and-then ! (load ! (from ! (stop !)) (look ! 20 refl)) (and-then ! (load ! (from ! (stop !)) (look ! 18 refl)) (and-then ! (load ! (from ! (stop !)) (look ! 16 refl)) (and-then ! (load ! (from ! (stop !)) (look ! 14 refl)) (and-then ! (load ! (from ! (stop !)) (look ! 5 refl)) (no-more !)))))) (λ ok1 ws1 e1.
+          fsplit ! $ drop ! $ fsplit ! $ drop ! $ fsplit ! $ drop ! $ fsplit ! $ drop ! $ fsplit ! $ fsplit ! $ move ! (1 ∷ []) $ feqL ! (λ len1e. move ! (1 ∷ []) $ drop ! $ move ! (1 ∷ []) $ use1 W (‵ (flft κ q) ⊛ (‵ (flft (ν1e ∷ []) fullShare) ⊛ ‵ ftrue)) (id⊢ 𝓤 _) $ split ! $ move ! (1 ∷ []) $ split ! $ move ! (1 ∷ []) $ drop ! $ move ! (0 ∷ 3 ∷ 2 ∷ []) $ array-home ev ! tt 256 (replicate 256 (record { kind = 0; name = 0; line = 0; column = 0; index = 0; vs = 0; link = 0 })) (ws1 .1 .1 .1 .1 .0) a51 l₅ (repeat-is ev 256 (record { kind = 0; name = 0; line = 0; column = 0; index = 0; vs = 0; link = 0 }) (ev-is (record { kind = 0; name = 0; line = 0; column = 0; index = 0; vs = 0; link = 0 }) (refl, lit< tt) (refl, lit< tt) (refl, lit< tt) (refl, lit< tt) (refl, lit< tt) (refl, lit< tt) (refl, lit< tt))) len1e e1 (λ a51-ok.
           land ! (from ! (stop !)) (init ! 11 refl (typed ro W r1 ok1 .0)) $
-          assigns ! (of-opd ! (load ! (from ! (stop !)) (look ! 0 refl))) (from ! (stop !)) (init ! 3 refl (typed (array-data ev 128) W a51 a51-ok .0)) $  -- _10 := _5
+          assigns ! (of-opd ! (load ! (from ! (stop !)) (look ! 0 refl))) (from ! (stop !)) (init ! 3 refl (typed (array-data ev 256) W a51 a51-ok .0)) $  -- _10 := _5
           assigns ! (agg ! (and-then ! (load ! (from ! (stop !)) (look ! 11 refl)) (and-then ! (load ! (from ! (stop !)) (look ! 3 refl)) (no-more !)))) (from ! (stop !)) (init ! 22 refl (typed rm W (record { answer = r1; raw = a51 }) (rm-is (record { answer = r1; raw = a51 }) ok1 a51-ok) .0)) $  -- _0 := {_6, _10}
           move ! (2 ∷ 1 ∷ 3 ∷ 4 ∷ 5 ∷ 6 ∷ 7 ∷ 8 ∷ 9 ∷ 10 ∷ 11 ∷ 12 ∷ 0 ∷ []) $ returns ! (look ! 22 refl) $ forget ! 2 refl $ forget ! 4 refl $ forget ! 6 refl $ forget ! 8 refl $ forget ! 10 refl $ forget ! 12 refl $ forget ! 14 refl $ forget ! 16 refl $ forget ! 18 refl $ forget ! 20 refl $ forget ! 22 refl $
-          move ! (22 ∷ 23 ∷ []) $ free1 ! $ move ! (20 ∷ 21 ∷ []) $ free1 ! $ move ! (18 ∷ 19 ∷ []) $ free1 ! $ move ! (16 ∷ 17 ∷ []) $ free1 ! $ move ! (14 ∷ 15 ∷ []) $ free1 ! $ move ! (12 ∷ 13 ∷ []) $ free1 ! $ move ! (10 ∷ 11 ∷ []) $ free1 ! $ move ! (8 ∷ 9 ∷ []) $ free1 ! $ move ! (6 ∷ 7 ∷ []) $ free1 ! $ move ! (4 ∷ 5 ∷ []) $ free1 ! $ move ! (2 ∷ 3 ∷ []) $ free1 ! $ free0 ! $ by ! (exits (record { answer = r1; raw = a51 }) (rm-is (record { answer = r1; raw = a51 }) ok1 a51-ok) (ap (λ (m : ℕ). rowSmallWith sheet off lz n (blanks 128) m) (length-replicate 128 blankEvent)))))))
+          move ! (22 ∷ 23 ∷ []) $ free1 ! $ move ! (20 ∷ 21 ∷ []) $ free1 ! $ move ! (18 ∷ 19 ∷ []) $ free1 ! $ move ! (16 ∷ 17 ∷ []) $ free1 ! $ move ! (14 ∷ 15 ∷ []) $ free1 ! $ move ! (12 ∷ 13 ∷ []) $ free1 ! $ move ! (10 ∷ 11 ∷ []) $ free1 ! $ move ! (8 ∷ 9 ∷ []) $ free1 ! $ move ! (6 ∷ 7 ∷ []) $ free1 ! $ move ! (4 ∷ 5 ∷ []) $ free1 ! $ move ! (2 ∷ 3 ∷ []) $ free1 ! $ free0 ! $ by ! (exits (record { answer = r1; raw = a51 }) (rm-is (record { answer = r1; raw = a51 }) ok1 a51-ok) (ap (λ (m : ℕ). rowSmallWith sheet off lz n (blanks 256) m) (length-replicate 256 blankEvent)))))))
 
     walk : (𝓣 : Tables 𝓤 H) (known-row-front : Triple 𝓤 (𝓣 .C #buffers·row-front) (RowFront′ 𝓤 H A mem run′)) → ent 𝓤 (onEntry 𝓤 H A row-small.signature (κ, tt) (q, tt) x vs) (WpFn 𝓤 H (𝓣 .C) (𝓣 .Λ) code.function (sliceVal (b, o) (length sheet) ∷ vint w64 off ∷ bool-data .val lz ∷ vint w64 n ∷ []) Post)
     walk 𝓣 known-row-front =

@@ -6,7 +6,7 @@ use Rattle.protocol.proofs.print.events.Statement.{statement}
 use Rattle.protocol.proofs.print.events.Tie as tie
 
 abbrev Inv-loop : tie.InvT-loop
-Inv-loop m raw i₀ i = (i ≤ m) × (m ≤ 128)
+Inv-loop m raw i₀ i = (i ≤ m) × (m ≤ 256)
 
 abbrev μ-loop : tie.MeasureT-loop
 μ-loop m raw i₀ i = m - i

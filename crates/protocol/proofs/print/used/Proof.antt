@@ -6,7 +6,7 @@ use Rattle.protocol.proofs.print.used.Statement.{statement}
 use Rattle.protocol.proofs.print.used.Tie as tie
 
 abbrev Inv-loop : tie.InvT-loop
-Inv-loop n raw m₀ m = (m ≤ n) × (n ≤ 128)
+Inv-loop n raw m₀ m = (m ≤ n) × (n ≤ 256)
 
 abbrev μ-loop : tie.MeasureT-loop
 μ-loop n raw m₀ m = m

@@ -1,10 +1,10 @@
--- `words::number` meets its contract: a digit is added only where the number stays below 2 ^ 64.
+-- `words::digits` meets its contract: a digit is added only where the number stays below 2 ^ 64.
 -- Assumes nothing.
 use borrow.Author.Needs.{needs}
 use Prim.Native.Nat.{_<_, _^_, _-_}
 use lib.ListN.{length}
-use Rattle.protocol.proofs.words.number.Statement.{statement}
-use Rattle.protocol.proofs.words.number.Tie as tie
+use Rattle.protocol.proofs.words.digits.Statement.{statement}
+use Rattle.protocol.proofs.words.digits.Tie as tie
 
 abbrev Inv-loop : tie.InvT-loop
 Inv-loop line at value₀ i₀ value i = value < 2 ^ 64
@@ -24,6 +24,9 @@ digit-requires c κs = search needs
 sub-if2 : tie.Need-sub-if2 Inv-loop μ-loop
 sub-if2 c = search needs
 
+unreadable-requires : tie.Need-unreadable-requires Inv-loop μ-loop
+unreadable-requires c κs = search needs
+
 returns : tie.Need-returns Inv-loop μ-loop
 returns c = search needs
 
@@ -42,17 +45,17 @@ loop-less c = search needs
 loop-again : tie.Need-loop-again Inv-loop μ-loop
 loop-again c = search needs
 
+unreadable-requires-2 : tie.Need-unreadable-requires-2 Inv-loop μ-loop
+unreadable-requires-2 c κs = search needs
+
 returns-2 : tie.Need-returns-2 Inv-loop μ-loop
 returns-2 c = search needs
-
-next-word-requires : tie.Need-next-word-requires Inv-loop μ-loop
-next-word-requires c κs = search needs
 
 returns-3 : tie.Need-returns-3 Inv-loop μ-loop
 returns-3 c = search needs
 
-pub number-spec : {M : Type 1} → statement M
-number-spec =
+pub digits-spec : {M : Type 1} → statement M
+digits-spec =
     tie.close
     (tie.spec
     Inv-loop
@@ -61,12 +64,13 @@ number-spec =
     shared-slice-read-digit
     digit-requires
     sub-if2
+    unreadable-requires
     returns
     mul-value
     add-value
     add-i
     loop-less
     loop-again
+    unreadable-requires-2
     returns-2
-    next-word-requires
     returns-3)
