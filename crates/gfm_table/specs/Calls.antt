@@ -58,6 +58,7 @@ nowhere = Ended Body start
 abbrev pub headEventsAt : List ℕ → Point → List Event
 headEventsAt s p = headEvents kindOf p (lineAt s p) (lineAt s (after s p))
 
+-- a head that is refused: nothing comes
 abbrev pub headRefused : ℕ → HeadPlan
 headRefused k = record { answer = head.Refused k; cursor = nowhere }
 
@@ -94,6 +95,7 @@ module _ (s : List ℕ) (i : ℕ) (on stray : Bool) (n : ℕ) where
 abbrev pub rowEventsAt : List ℕ → Point → List Event
 rowEventsAt s p = rawRow (textRow kindOf p (restOf s p))
 
+-- a row that is refused: nothing comes
 abbrev pub rowRefused : ℕ → RowPlan
 rowRefused k = record { answer = row.Refused k; cursor = nowhere }
 

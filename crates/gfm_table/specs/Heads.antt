@@ -11,6 +11,7 @@ use Rattle.gfm_table.specs.Rows.{Piece, rowPieces}
 
 -- ## The head line
 
+-- whether a piece is a divider
 abbrev pub isDivider : Piece → Bool
 isDivider p = eqb (p .name) GfmTableCellDivider
 
@@ -25,6 +26,7 @@ loneDivider [] = true
 loneDivider (p ∷ []) = isDivider p
 loneDivider (p ∷ q ∷ ps) = false
 
+-- the number of dividers
 unfoldable pub dividers : List Piece → ℕ
 dividers [] = 0
 dividers (p ∷ ps) = cond (isDivider p) (1 + dividers ps) (dividers ps)
@@ -40,6 +42,7 @@ trailing [] = 0
 trailing (p ∷ []) = cond (isDivider p) 0 1
 trailing (p ∷ q ∷ ps) = trailing (q ∷ ps)
 
+-- 01's number of head cells: the dividers, less a leading one, and one more if something follows the last
 abbrev pub cellCount : List Piece → ℕ
 cellCount ps = dividers ps - leading ps + trailing ps
 
@@ -55,10 +58,12 @@ untrailed [] = []
 untrailed (c ∷ []) = cond (isEmpty c) [] (c ∷ [])
 untrailed (c ∷ d ∷ cs) = c ∷ untrailed (d ∷ cs)
 
+-- a byte put before the first stretch
 abbrev pub onStretch : ℕ → List (List ℕ) → List (List ℕ)
 onStretch b [] = (b ∷ []) ∷ []
 onStretch b (c ∷ cs) = (b ∷ c) ∷ cs
 
+-- the last byte, or d where there is none
 abbrev pub lastByte : ℕ → List ℕ → ℕ
 lastByte d [] = d
 lastByte d (b ∷ s) = lastByte b s
@@ -68,6 +73,7 @@ module _ (kind : ℕ → ℕ) where
   abbrev pub permitted : Bool → List ℕ → Bool
   permitted on s = not on || leb (columnPast 1 (indent kind s)) 4
 
+  -- the cells of a head line, whitespace left out
   abbrev pub headCells : List ℕ → ℕ
   headCells s = cellCount (solid (rowPieces kind false s))
 
@@ -76,10 +82,12 @@ module _ (kind : ℕ → ℕ) where
   stretches [] = [] ∷ []
   stretches (b ∷ s) = cond (eqb (kind b) 3) ([] ∷ stretches s) (onStretch b (stretches s))
 
+  -- whitespace at the end taken off
   unfoldable pub untailed : List ℕ → List ℕ
   untailed [] = []
   untailed (b ∷ s) = cond (isSpace kind b && blank kind s) [] (b ∷ untailed s)
 
+  -- each stretch with the whitespace at both ends taken off
   unfoldable pub trimmed : List (List ℕ) → List (List ℕ)
   trimmed [] = []
   trimmed (c ∷ cs) = untailed (unindented kind c) ∷ trimmed cs
@@ -99,6 +107,7 @@ module _ (kind : ℕ → ℕ) where
   isValue [] = false
   isValue (b ∷ s) = cond (eqb (kind b) 6) (hyphens s) (hyphens (b ∷ s))
 
+  -- every stretch is a value
   unfoldable pub allValues : List (List ℕ) → Bool
   allValues [] = true
   allValues (c ∷ cs) = isValue c && allValues cs
@@ -108,6 +117,7 @@ module _ (kind : ℕ → ℕ) where
   marked [] = false
   marked (b ∷ s) = eqb (kind b) 3 || (eqb (kind b) 6 || marked s)
 
+  -- a delimiter line: indent permitted, a colon or a pipe in it, at least one value, and nothing but values
   abbrev pub isDelimiterRow : Bool → List ℕ → Bool
   isDelimiterRow on s = permitted on s && (marked s && (ltb 0 (length (values s)) && allValues (values s)))
 
@@ -119,6 +129,7 @@ module _ (kind : ℕ → ℕ) where
       (cond (eqb (kind (lastByte b s)) 6) 4 2)
       (cond (eqb (kind (lastByte b s)) 6) 3 1)
 
+  -- the alignments of some values
   unfoldable pub alignments : List (List ℕ) → List ℕ
   alignments [] = []
   alignments (c ∷ cs) = alignment c ∷ alignments cs

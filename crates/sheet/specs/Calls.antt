@@ -27,48 +27,54 @@ use Rattle.sheet.specs.Aligning.{alignedInto}
 abbrev pub longRefusal : List ℕ → ℕ
 longRefusal s = cond (ltb 65536 (length s)) 1 0
 
--- questions 12 and 14, of results and of alignments
+-- question 12, of result events
 abbrev pub resultRefusal : ℕ → List Event → ℕ
 resultRefusal n xs = cond (leb (length xs) n) 0 12
 
+-- question 14, of alignments
 abbrev pub alignRefusal : ℕ → List ℕ → ℕ
 alignRefusal n xs = cond (leb (length xs) n) 0 14
 
 -- ## The answer, with n raw slots, m result slots and k alignment slots
 
 module _ (s : List ℕ) (on : Bool) (n m k : ℕ) where
-  abbrev pub found : List Found
-  found = tables kindOf on s
+  -- the tables of the sheet
+  abbrev pub sheetTables : List Found
+  sheetTables = tables kindOf on s
 
   -- the number of the first question that a sheet gets a "no" to, or 0
   abbrev pub sheetNumber : ℕ
   sheetNumber =
       orElse (longRefusal s)
-      (orElse (slotRefusal n (rawOf found))
-      (orElse (resultRefusal m (resolvedOf found)) (alignRefusal k (alignedOf found))))
+      (orElse (slotRefusal n (rawOf sheetTables))
+      (orElse (resultRefusal m (resolvedOf sheetTables)) (alignRefusal k (alignedOf sheetTables))))
 
   -- accepted: the numbers of tables, raw events, result events and alignments
   abbrev pub sheetOf : Sheet
   sheetOf =
       cond (eqb sheetNumber 0)
-      (Accepted (length found) (length (rawOf found)) (length (resolvedOf found)) (length (alignedOf found)))
+      (Accepted (length sheetTables) (length (rawOf sheetTables)) (length (resolvedOf sheetTables)) (length (alignedOf sheetTables)))
       (Refused sheetNumber)
 
-  -- the slots: what was found and then blanks, or blanks
+  -- the raw slots: the events of all tables and then blanks, or blanks
   abbrev pub sheetRaw : List Event
-  sheetRaw = slotsOf n (cond (eqb sheetNumber 0) (rawOf found) [])
+  sheetRaw = slotsOf n (cond (eqb sheetNumber 0) (rawOf sheetTables) [])
 
+  -- the result slots, likewise
   abbrev pub sheetResults : List Event
-  sheetResults = slotsOf m (cond (eqb sheetNumber 0) (resolvedOf found) [])
+  sheetResults = slotsOf m (cond (eqb sheetNumber 0) (resolvedOf sheetTables) [])
 
+  -- the alignment slots: the alignments and then zeros, or zeros
   abbrev pub sheetAligned : List ℕ
-  sheetAligned = alignedInto (eqb sheetNumber 0) (alignedOf found) k
+  sheetAligned = alignedInto (eqb sheetNumber 0) (alignedOf sheetTables) k
 
 -- ## The way there
 
+-- the counts of a sheet that is not read
 abbrev pub noCounts : Counts
 noCounts = record { tables = 0; raw = 0; aligned = 0 }
 
+-- refused before a slot is written: nothing comes
 abbrev pub noPlan : ℕ → Plan
 noPlan q = record { refusal = q; counts = noCounts; walk = Done }
 
@@ -79,6 +85,7 @@ planOf s on n =
     (cond (ltb n (length (rawOf (tables kindOf on s)))) (noPlan 9)
     (record { refusal = 0; counts = countsOf (tables kindOf on s); walk = Seek start }))
 
+-- refused: no slot stays as it is
 abbrev pub noVerdict : ℕ → Verdict
 noVerdict q = record { answer = Refused q; go = false; raw = 0; results = 0 }
 
@@ -87,6 +94,7 @@ abbrev pub acceptOf : Counts → ℕ → ℕ → ℕ → ℕ → Verdict
 acceptOf c r n m k =
     cond (leb (c .aligned) k) (record { answer = Accepted (c .tables) (c .raw) r (c .aligned); go = true; raw = n; results = m }) (noVerdict 14)
 
+-- question 12 as resolving answered it, then 14
 abbrev pub resolvedAs : Counts → Resolved → ℕ → ℕ → ℕ → Verdict
 resolvedAs c (resolve.Refused q) n m k = noVerdict q
 resolvedAs c (resolve.Accepted r) n m k = acceptOf c r n m k
