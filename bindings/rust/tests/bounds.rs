@@ -1,0 +1,99 @@
+//! The slots that are said to suffice do: for the worst sheets of 65,536 bytes, and for every short sheet of the bytes that matter.
+
+use poolsheet::{alignment_slots, calls, raw_slots, result_slots, Event, SHEET_MAX};
+
+/// Reads sheets into slots that are made once.
+struct Reader {
+    raw: Vec<Event>,
+    results: Vec<Event>,
+    alignments: Vec<u8>,
+}
+
+impl Reader {
+    fn new(n: usize) -> Reader {
+        Reader {
+            raw: vec![Event::BLANK; raw_slots(n)],
+            results: vec![Event::BLANK; result_slots(n)],
+            alignments: vec![0; alignment_slots(n)],
+        }
+    }
+
+    /// Reads a sheet with as many slots as are said to suffice.
+    fn read(&mut self, sheet: &[u8]) -> calls::Sheet {
+        let n = sheet.len();
+        let (raw, results) = (&mut self.raw[..raw_slots(n)], &mut self.results[..result_slots(n)]);
+        match calls::sheet(sheet, true, raw, results, &mut self.alignments[..alignment_slots(n)]) {
+            Ok(counts) => counts,
+            Err(refusal) => panic!("{refusal}: {} bytes, {:?}", n, String::from_utf8_lossy(&sheet[..n.min(80)])),
+        }
+    }
+}
+
+/// A start, then a text over and over, to the longest sheet.
+fn repeated(start: &str, text: &str) -> Vec<u8> {
+    start.bytes().chain(text.bytes().cycle()).take(SHEET_MAX).collect()
+}
+
+#[test]
+fn worst_sheets() {
+    let mut reader = Reader::new(SHEET_MAX);
+    let most = reader.read(&repeated("a\n:-", "\na"));
+    assert_eq!(most, calls::Sheet { tables: 1, events: 196_610, results: 327_686, alignments: 1 });
+    assert_eq!(most.events, raw_slots(SHEET_MAX));
+
+    let tables = reader.read("a\n:-\n\n".repeat(SHEET_MAX / 6).as_bytes());
+    assert_eq!((tables.tables, tables.events, tables.alignments), (10_922, 152_908, 10_922));
+
+    let columns = "a|".repeat(13_107);
+    let wide = reader.read(format!("{columns}\n{}\n", "-|".repeat(13_107)).as_bytes());
+    assert_eq!((wide.tables, wide.alignments), (1, 13_107));
+
+    let narrow = reader.read(format!("{}\n{}-\n", "|".repeat(21_845), "-|".repeat(21_843)).as_bytes());
+    assert_eq!((narrow.tables, narrow.alignments), (1, 21_844));
+
+    for text in ["|", "a|", "a", "\\", "\t", " ", "\n", "\r\n", "-", ":-|", "|-", "a\n"] {
+        assert_eq!(reader.read(&repeated("", text)).tables, 0, "{text:?}");
+    }
+    for text in ["|", "a|", "|a", "\\|", "\t|", "a\r", "\n|", "\n||", "\n|a", "\r\na", "\n|a|a", "\na|"] {
+        assert_eq!(reader.read(&repeated("a\n:-\n", text)).tables, 1, "{text:?}");
+    }
+    for text in ["a\n:-\n\n", "a\n-|\n\n", "||\n:-\n\n", "a|a\n-|-\n\n", "a\n:-\na\n\n", "a\r\n:-\r\n\r\n"] {
+        let times = SHEET_MAX / text.len();
+        assert_eq!(reader.read(text.repeat(times).as_bytes()).tables, times, "{text:?}");
+    }
+}
+
+#[test]
+fn short_sheets() {
+    let mut reader = Reader::new(9);
+    let mut with_tables = 0;
+    for length in 0..=7 {
+        let mut sheet = vec![0; length];
+        for number in 0..6usize.pow(length as u32) {
+            let mut rest = number;
+            for byte in &mut sheet {
+                *byte = b"a|-:\n "[rest % 6];
+                rest /= 6;
+            }
+            with_tables += usize::from(reader.read(&sheet).tables > 0);
+        }
+    }
+    assert!(with_tables > 1_000);
+}
+
+#[test]
+fn random_sheets() {
+    let mut reader = Reader::new(200);
+    let mut state = 7u64;
+    let mut tables = 0;
+    for _ in 0..50_000 {
+        let mut sheet = b"a\n:-\n".to_vec();
+        for _ in 0..state >> 57 {
+            state = state.wrapping_mul(6_364_136_223_846_793_005).wrapping_add(1_442_695_040_888_963_407);
+            sheet.push(b"aa||-:\n\n\r\t \\"[(state >> 33) as usize % 12]);
+        }
+        state = state.wrapping_mul(6_364_136_223_846_793_005).wrapping_add(1_442_695_040_888_963_407);
+        tables += reader.read(&sheet).tables;
+    }
+    assert!(tables > 50_000);
+}

@@ -1,0 +1,184 @@
+//! The six calls: what they accept, and that a refusal blanks every slot.
+
+use poolsheet::{calls, Alignment, Event, Name, Refusal};
+
+/// A record that no call leaves in a slot.
+const STALE: Event = Event { kind: 9, name: 99, line: 9, column: 9, index: 9, vs: 9, link: 9 };
+
+const SHEET: &[u8] = b"a|b\n:-|-\nc";
+
+/// The raw events and the result events of a sheet.
+fn events(sheet: &[u8]) -> (Vec<Event>, Vec<Event>) {
+    let read = poolsheet::read_sheet(sheet, true).unwrap();
+    (read.raw().to_vec(), read.results().to_vec())
+}
+
+/// Slots that were written before.
+fn stale(n: usize) -> Vec<Event> {
+    vec![STALE; n]
+}
+
+fn all_blank(slots: &[Event]) -> bool {
+    slots.iter().all(|slot| *slot == Event::BLANK)
+}
+
+#[test]
+fn head() {
+    let mut raw = stale(24);
+    assert_eq!(calls::head(SHEET, 0, true, false, false, &mut raw), Ok(calls::Head { events: 22, end: 8, cells: 2 }));
+    assert_eq!(raw[..22], events(SHEET).0[..22]);
+    assert!(all_blank(&raw[22..]));
+    assert!(raw[0].enters(Name::GfmTableHead) && raw[21].leaves(Name::GfmTableHead));
+}
+
+#[test]
+fn head_refused() {
+    let long = vec![b'a'; 65_537];
+    let cases: [(&[u8], usize, bool, usize, Refusal); 9] = [
+        (&long, 0, false, 24, Refusal::SheetTooLong),
+        (SHEET, 1, false, 24, Refusal::NoLineStart),
+        (SHEET, 11, false, 24, Refusal::NoLineStart),
+        (b"    a\n:-", 0, false, 24, Refusal::IndentTooWide),
+        (b"a", 0, false, 24, Refusal::NoHeadLine),
+        (SHEET, 0, true, 24, Refusal::LazyOrPierced),
+        (b"a\n-", 0, false, 24, Refusal::NoDelimiterRow),
+        (b"a|b\n:-", 0, false, 24, Refusal::ColumnsDiffer),
+        (SHEET, 0, false, 21, Refusal::TooFewRawSlots),
+    ];
+    for (sheet, offset, stray, slots, refusal) in cases {
+        for (lazy, pierced) in if stray { vec![(true, false), (false, true)] } else { vec![(false, false)] } {
+            let mut raw = stale(slots);
+            assert_eq!(calls::head(sheet, offset, true, lazy, pierced, &mut raw), Err(refusal));
+            assert!(all_blank(&raw), "{refusal:?}");
+        }
+    }
+}
+
+#[test]
+fn row() {
+    let mut raw = stale(6);
+    assert_eq!(calls::row(SHEET, 9, false, &mut raw), Ok(calls::Row { events: 4, end: 10 }));
+    assert_eq!(raw[..4], events(SHEET).0[24..]);
+    assert!(all_blank(&raw[4..]));
+}
+
+#[test]
+fn row_refused() {
+    let long = vec![b'a'; 65_537];
+    let cases: [(&[u8], usize, bool, usize, Refusal); 5] = [
+        (&long, 0, false, 6, Refusal::SheetTooLong),
+        (SHEET, 2, false, 6, Refusal::NoLineStart),
+        (SHEET, 9, true, 6, Refusal::LazyOrPierced),
+        (b"a\n \nb", 2, false, 6, Refusal::BlankRow),
+        (SHEET, 9, false, 3, Refusal::TooFewRawSlots),
+    ];
+    for (sheet, offset, lazy, slots, refusal) in cases {
+        let mut raw = stale(slots);
+        assert_eq!(calls::row(sheet, offset, lazy, &mut raw), Err(refusal));
+        assert!(all_blank(&raw), "{refusal:?}");
+    }
+}
+
+#[test]
+fn resolve() {
+    let (raw, results) = events(SHEET);
+    let mut slots = stale(60);
+    assert_eq!(calls::resolve(&raw, &mut slots), Ok(52));
+    assert_eq!(slots[..52], results);
+    assert!(all_blank(&slots[52..]));
+    assert_eq!(calls::resolve(&[], &mut []), Ok(0));
+}
+
+#[test]
+fn resolve_refused() {
+    let (raw, _) = events(SHEET);
+    for (list, slots, refusal) in [
+        (&raw[1..], 60, Refusal::NoRawTables),
+        (&raw[..], 51, Refusal::TooFewResultSlots),
+        (&raw, 0, Refusal::TooFewResultSlots),
+    ] {
+        let mut results = stale(slots);
+        assert_eq!(calls::resolve(list, &mut results), Err(refusal));
+        assert!(all_blank(&results), "{refusal:?}");
+    }
+}
+
+/// Records that are told apart by their index.
+fn numbered(range: std::ops::Range<u32>) -> Vec<Event> {
+    range.map(|index| Event { index, ..STALE }).collect()
+}
+
+#[test]
+fn edit() {
+    let (list, pool) = (numbered(0..4), numbered(10..13));
+    // Behind record 2 comes record 12; record 1 is removed, and 10 and 11 come there. The last number is no edit.
+    let mut edits = [3, 0, 2, 1, 0, 1, 1, 0, 2, 0, 77];
+    let mut results = stale(8);
+    assert_eq!(calls::edit(&list, &mut edits, &pool, &mut results), Ok(6));
+    let indexes: Vec<u32> = results[..6].iter().map(|event| event.index).collect();
+    assert_eq!(indexes, [0, 10, 11, 2, 12, 3]);
+    assert!(all_blank(&results[6..]));
+    assert_eq!(edits, [1, 1, 0, 2, 0, 3, 0, 2, 1, 0, 77]);
+}
+
+#[test]
+fn edit_refused() {
+    let (list, pool) = (numbered(0..4), numbered(10..13));
+    for (edit, slots, refusal) in [
+        ([4, 1, 0, 0, 0], 8, Refusal::EditsDoNotFit),
+        ([0, 0, 2, 2, 0], 8, Refusal::EditsDoNotFit),
+        ([0, 0, 0, 1, 0], 4, Refusal::TooFewResultSlots),
+    ] {
+        let (mut edits, mut results) = (edit, stale(slots));
+        assert_eq!(calls::edit(&list, &mut edits, &pool, &mut results), Err(refusal));
+        assert!(all_blank(&results), "{refusal:?}");
+        assert_eq!(edits, edit);
+    }
+}
+
+#[test]
+fn align() {
+    let (_, results) = events(SHEET);
+    let mut alignments = [9; 3];
+    assert_eq!(calls::align(&results, 0, &mut alignments), Ok(2));
+    assert_eq!(alignments, [Alignment::Left.number(), Alignment::None.number(), 0]);
+}
+
+#[test]
+fn align_refused() {
+    let (_, results) = events(SHEET);
+    for (index, slots, refusal) in [(1, 3, Refusal::NoTableToAlign), (0, 1, Refusal::TooFewAlignmentSlots)] {
+        let mut alignments = vec![9; slots];
+        assert_eq!(calls::align(&results, index, &mut alignments), Err(refusal));
+        assert!(alignments.iter().all(|&slot| slot == 0), "{refusal:?}");
+    }
+}
+
+#[test]
+fn sheet() {
+    let (mut raw, mut results, mut alignments) = (stale(30), stale(60), [9; 4]);
+    assert_eq!(
+        calls::sheet(SHEET, true, &mut raw, &mut results, &mut alignments),
+        Ok(calls::Sheet { tables: 1, events: 28, results: 52, alignments: 2 })
+    );
+    assert!(all_blank(&raw[28..]) && all_blank(&results[52..]));
+    assert!(raw[..28].iter().chain(&results[..52]).all(|event| event.kind == 1 || event.kind == 2));
+    assert_eq!(alignments, [2, 1, 0, 0]);
+}
+
+#[test]
+fn sheet_refused() {
+    let long = vec![b'a'; 65_537];
+    let cases: [(&[u8], [usize; 3], Refusal); 4] = [
+        (&long, [30, 60, 4], Refusal::SheetTooLong),
+        (SHEET, [27, 51, 1], Refusal::TooFewRawSlots),
+        (SHEET, [30, 51, 1], Refusal::TooFewResultSlots),
+        (SHEET, [30, 60, 1], Refusal::TooFewAlignmentSlots),
+    ];
+    for (sheet, [n, m, k], refusal) in cases {
+        let (mut raw, mut results, mut alignments) = (stale(n), stale(m), vec![9; k]);
+        assert_eq!(calls::sheet(sheet, true, &mut raw, &mut results, &mut alignments), Err(refusal));
+        assert!(all_blank(&raw) && all_blank(&results) && alignments.iter().all(|&slot| slot == 0), "{refusal:?}");
+    }
+    assert_eq!(poolsheet::read_sheet(&long, true).unwrap_err(), Refusal::SheetTooLong);
+}

@@ -1,0 +1,88 @@
+//! Whole sheets: the example of the scope document, the repository's sheets against their listings.
+
+use std::fmt::Write;
+use std::fs;
+use std::path::Path;
+
+use poolsheet::{read_sheet, Alignment, Row, Sheet};
+
+/// The lines of a row's cells: the letter, the line, and offset and length of the text.
+fn list_row(out: &mut String, letter: char, row: &Row) {
+    for cell in row.cells() {
+        let range = cell.range().unwrap_or(0..0);
+        writeln!(out, "{letter} {} {} {}", row.line(), range.start, range.len()).unwrap();
+    }
+}
+
+/// A sheet's listing, as `sheets/` keeps it.
+fn listing(sheet: &Sheet) -> String {
+    let mut out = format!("tables {}\n", sheet.tables().len());
+    for (i, table) in sheet.tables().iter().enumerate() {
+        let letters: String = table
+            .alignments()
+            .iter()
+            .map(|alignment| match alignment {
+                Alignment::None => 'N',
+                Alignment::Left => 'L',
+                Alignment::Right => 'R',
+                Alignment::Centre => 'C',
+            })
+            .collect();
+        writeln!(out, "T {} {} {} {letters}", i + 1, table.header().line(), table.header().cells().len()).unwrap();
+        list_row(&mut out, 'H', table.header());
+        for row in table.rows() {
+            list_row(&mut out, 'B', row);
+        }
+    }
+    out
+}
+
+#[test]
+fn example() {
+    let sheet = read_sheet(b"a|b\n:-|-\nc", true).unwrap();
+    assert_eq!(listing(&sheet), "tables 1\nT 1 1 2 LN\nH 1 0 1\nH 1 2 1\nB 3 9 1\n");
+    assert_eq!((sheet.raw().len(), sheet.results().len()), (28, 52));
+    let table = &sheet.tables()[0];
+    assert_eq!(table.alignments(), [Alignment::Left, Alignment::None]);
+    assert_eq!((table.position(b"a"), table.position(b"b"), table.position(b"c")), (Some(0), Some(1), None));
+    assert_eq!(table.column(0).collect::<Vec<_>>(), [b"c"]);
+    assert_eq!(table.column(1).collect::<Vec<_>>(), [b""]);
+    assert_eq!(table.rows()[0].cells().len(), 1);
+}
+
+#[test]
+fn kept_listings() {
+    let folder = Path::new(env!("CARGO_MANIFEST_DIR")).join("../../sheets");
+    let mut compared = 0;
+    for entry in fs::read_dir(&folder).unwrap() {
+        let path = entry.unwrap().path();
+        if path.extension().is_some_and(|extension| extension == "md") {
+            let bytes = fs::read(&path).unwrap();
+            let kept = fs::read_to_string(path.with_extension("roster")).unwrap();
+            assert_eq!(listing(&read_sheet(&bytes, true).unwrap()), kept, "{}", path.display());
+            compared += 1;
+        }
+    }
+    assert!(compared >= 3);
+}
+
+#[test]
+fn columns_of_checkout() {
+    let bytes = fs::read(Path::new(env!("CARGO_MANIFEST_DIR")).join("../../sheets/checkout.md")).unwrap();
+    let sheet = read_sheet(&bytes, true).unwrap();
+    let column = |table: usize, name: &[u8]| -> Vec<&[u8]> {
+        let table = &sheet.tables()[table];
+        table.column(table.position(name).unwrap()).collect()
+    };
+    assert_eq!(column(0, b"state"), [&b"up"[..], b"up", b"down", b"drain", b"up"]);
+    assert_eq!(column(0, b"weight"), [&b"1.00"[..], b"1.00", b"0.50", b"", b"0.25"]);
+    assert_eq!(column(1, b"server"), [b"spare-01", b"spare-02"]);
+    assert_eq!(sheet.tables()[0].rows()[4].cells()[4].text(), b"since Monday");
+    assert_eq!(sheet.bytes(), bytes);
+}
+
+#[test]
+fn indented_head() {
+    assert_eq!(read_sheet(b"    a\n:-", true).unwrap().tables().len(), 0);
+    assert_eq!(read_sheet(b"    a\n:-", false).unwrap().tables().len(), 1);
+}
