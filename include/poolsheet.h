@@ -32,7 +32,7 @@ typedef struct poolsheet_event {
     uint32_t line;   /* from 1 */
     uint32_t column; /* from 1; bytes, a tab runs to the next tab stop */
     uint32_t index;  /* offset in the sheet, in bytes */
-    uint8_t vs;      /* place inside a tab; 0 in every event that a call gives */
+    uint8_t vs;      /* place inside a tab; 0 in every event that is read from a sheet */
     uint8_t link;    /* enum poolsheet_link */
 } poolsheet_event;
 

@@ -14,7 +14,7 @@ pub struct Event {
     pub column: u32,
     /// Offset in the sheet, in bytes.
     pub index: u32,
-    /// Place inside a tab, 0 in every event that a call gives.
+    /// Place inside a tab, 0 in every event that is read from a sheet.
     pub vs: u8,
     /// 0 none, 1 text.
     pub link: u8,

@@ -37,12 +37,22 @@ pub struct Cell<'s> {
 
 /// Reads a whole sheet. With `code_indented`, a line that is indented by 4 columns or more is no head line.
 ///
-/// The slots that are lent suffice, so that the only refusal is [`Refusal::SheetTooLong`].
+/// The only refusal is [`Refusal::SheetTooLong`]: slots that usually suffice are lent first, and where they do not, slots that always do.
 pub fn read_sheet(sheet: &[u8], code_indented: bool) -> Result<Sheet<'_>, Refusal> {
     let n = if sheet.len() <= SHEET_MAX { sheet.len() } else { 0 };
-    let mut raw = vec![Event::BLANK; raw_slots(n)];
-    let mut results = vec![Event::BLANK; result_slots(n)];
-    let mut alignments = vec![0; alignment_slots(n)];
+    match read_with(sheet, code_indented, n + 64, n + n / 2 + 96) {
+        Err(Refusal::TooFewRawSlots | Refusal::TooFewResultSlots) => {
+            read_with(sheet, code_indented, raw_slots(n), result_slots(n))
+        }
+        answer => answer,
+    }
+}
+
+/// Reads a whole sheet with so many raw slots and result slots.
+fn read_with(sheet: &[u8], code_indented: bool, raw: usize, results: usize) -> Result<Sheet<'_>, Refusal> {
+    let mut raw = vec![Event::BLANK; raw];
+    let mut results = vec![Event::BLANK; results];
+    let mut alignments = vec![0; alignment_slots(sheet.len().min(SHEET_MAX))];
     let counts = calls::sheet(sheet, code_indented, &mut raw, &mut results, &mut alignments)?;
     raw.truncate(counts.events);
     results.truncate(counts.results);

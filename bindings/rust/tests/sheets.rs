@@ -82,6 +82,17 @@ fn columns_of_checkout() {
 }
 
 #[test]
+fn dense_sheets() {
+    for (start, row) in [("a\n:-", "\na"), ("a|b\n:-|-", "\n|"), ("a\n:-", "\r\na|a"), ("||\n:-", "\n||||||||")] {
+        let times = (poolsheet::SHEET_MAX - start.len()) / row.len();
+        let text = start.to_string() + &row.repeat(times);
+        let sheet = read_sheet(text.as_bytes(), true).unwrap();
+        assert_eq!(sheet.tables().len(), 1);
+        assert_eq!(sheet.tables()[0].rows().len(), times, "{row:?}");
+    }
+}
+
+#[test]
 fn indented_head() {
     assert_eq!(read_sheet(b"    a\n:-", true).unwrap().tables().len(), 0);
     assert_eq!(read_sheet(b"    a\n:-", false).unwrap().tables().len(), 1);
