@@ -15,61 +15,61 @@ use Rattle.sheet.specs.declared.calls.Sheet.{Sheet}
 use Rattle.sheet.specs.declared.calls.Sheet.the-variants as sheet
 
 -- the number of a head's answer
-abbrev pub headNumber : Head → ℕ
-headNumber (head.Refused k) = k
-headNumber (head.Accepted events end cells) = 0
+abbrev pub numberOfHead : Head → ℕ
+numberOfHead (head.Refused k) = k
+numberOfHead (head.Accepted events end cells) = 0
 
 -- events, end and cells
-abbrev pub headCounts : Head → List ℕ
-headCounts (head.Refused k) = 0 ∷ 0 ∷ 0 ∷ []
-headCounts (head.Accepted events end cells) = events ∷ end ∷ cells ∷ []
+abbrev pub countsOfHead : Head → List ℕ
+countsOfHead (head.Refused k) = 0 ∷ 0 ∷ 0 ∷ []
+countsOfHead (head.Accepted events end cells) = events ∷ end ∷ cells ∷ []
 
 -- the number of a row's answer
-abbrev pub rowNumber : Row → ℕ
-rowNumber (row.Refused k) = k
-rowNumber (row.Accepted events end) = 0
+abbrev pub numberOfRow : Row → ℕ
+numberOfRow (row.Refused k) = k
+numberOfRow (row.Accepted events end) = 0
 
 -- events and end
-abbrev pub rowCounts : Row → List ℕ
-rowCounts (row.Refused k) = 0 ∷ 0 ∷ []
-rowCounts (row.Accepted events end) = events ∷ end ∷ []
+abbrev pub countsOfRow : Row → List ℕ
+countsOfRow (row.Refused k) = 0 ∷ 0 ∷ []
+countsOfRow (row.Accepted events end) = events ∷ end ∷ []
 
 -- the number of a resolver's answer
-abbrev pub resolveNumber : Resolved → ℕ
-resolveNumber (resolved.Refused k) = k
-resolveNumber (resolved.Accepted events) = 0
+abbrev pub numberOfResolved : Resolved → ℕ
+numberOfResolved (resolved.Refused k) = k
+numberOfResolved (resolved.Accepted events) = 0
 
 -- result events
-abbrev pub resolveCounts : Resolved → List ℕ
-resolveCounts (resolved.Refused k) = 0 ∷ []
-resolveCounts (resolved.Accepted events) = events ∷ []
+abbrev pub countsOfResolved : Resolved → List ℕ
+countsOfResolved (resolved.Refused k) = 0 ∷ []
+countsOfResolved (resolved.Accepted events) = events ∷ []
 
 -- the number of an edit's answer
-abbrev pub editNumber : Edited → ℕ
-editNumber (edited.Refused k) = k
-editNumber (edited.Accepted events) = 0
+abbrev pub numberOfEdited : Edited → ℕ
+numberOfEdited (edited.Refused k) = k
+numberOfEdited (edited.Accepted events) = 0
 
 -- result events
-abbrev pub editCounts : Edited → List ℕ
-editCounts (edited.Refused k) = 0 ∷ []
-editCounts (edited.Accepted events) = events ∷ []
+abbrev pub countsOfEdited : Edited → List ℕ
+countsOfEdited (edited.Refused k) = 0 ∷ []
+countsOfEdited (edited.Accepted events) = events ∷ []
 
 -- the number of an alignment's answer
-abbrev pub alignNumber : Aligned → ℕ
-alignNumber (aligned.Refused k) = k
-alignNumber (aligned.Accepted alignments) = 0
+abbrev pub numberOfAligned : Aligned → ℕ
+numberOfAligned (aligned.Refused k) = k
+numberOfAligned (aligned.Accepted alignments) = 0
 
 -- alignments
-abbrev pub alignCounts : Aligned → List ℕ
-alignCounts (aligned.Refused k) = 0 ∷ []
-alignCounts (aligned.Accepted alignments) = alignments ∷ []
+abbrev pub countsOfAligned : Aligned → List ℕ
+countsOfAligned (aligned.Refused k) = 0 ∷ []
+countsOfAligned (aligned.Accepted alignments) = alignments ∷ []
 
 -- the number of a sheet's answer
-abbrev pub sheetNumber : Sheet → ℕ
-sheetNumber (sheet.Refused k) = k
-sheetNumber (sheet.Accepted tables events results alignments) = 0
+abbrev pub numberOfSheet : Sheet → ℕ
+numberOfSheet (sheet.Refused k) = k
+numberOfSheet (sheet.Accepted tables events results alignments) = 0
 
 -- tables, raw events, result events and alignments
-abbrev pub sheetCounts : Sheet → List ℕ
-sheetCounts (sheet.Refused k) = 0 ∷ 0 ∷ 0 ∷ 0 ∷ []
-sheetCounts (sheet.Accepted tables events results alignments) = tables ∷ events ∷ results ∷ alignments ∷ []
+abbrev pub countsOfSheet : Sheet → List ℕ
+countsOfSheet (sheet.Refused k) = 0 ∷ 0 ∷ 0 ∷ 0 ∷ []
+countsOfSheet (sheet.Accepted tables events results alignments) = tables ∷ events ∷ results ∷ alignments ∷ []

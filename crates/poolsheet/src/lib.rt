@@ -24,7 +24,7 @@ ghost use Rattle.gfm_table.specs.Calls.{headOf, headSlots, rowOf, rowSlots};
 ghost use Rattle.edit_map.specs.Answers.{resolveAnswer, resolveSlots, alignAnswer, alignSlots};
 ghost use Rattle.edit_map.specs.EditAnswer.{editAnswer, editSlots, editResults};
 ghost use Rattle.sheet.specs.Calls.{sheetOf, sheetRaw, sheetResults, sheetAligned};
-ghost use Rattle.poolsheet.specs.Answers.{headNumber, headCounts, rowNumber, rowCounts, resolveNumber, resolveCounts, editNumber, editCounts, alignNumber, alignCounts, sheetNumber, sheetCounts};
+ghost use Rattle.poolsheet.specs.Answers.{numberOfHead, countsOfHead, numberOfRow, countsOfRow, numberOfResolved, countsOfResolved, numberOfEdited, countsOfEdited, numberOfAligned, countsOfAligned, numberOfSheet, countsOfSheet};
 
 pub mod answers;
 
@@ -39,9 +39,9 @@ pub extern "C" fn poolsheet_head(
     raw: &mut [Event],
     counts: &mut [usize; 3],
 ) -> u8
-    ensures { λ r. ⌜ (r ≡ headNumber (headOf (now (sheet .entry)) offset «code_indented» (lazy || pierced) (length (now (raw .entry)))))
+    ensures { λ r. ⌜ (r ≡ numberOfHead (headOf (now (sheet .entry)) offset «code_indented» (lazy || pierced) (length (now (raw .entry)))))
         × ((now (raw .exit) ≡ headSlots (now (sheet .entry)) offset «code_indented» (lazy || pierced) (length (now (raw .entry))))
-        × (now (counts .exit) ≡ headCounts (headOf (now (sheet .entry)) offset «code_indented» (lazy || pierced) (length (now (raw .entry)))))) ⌝ }
+        × (now (counts .exit) ≡ countsOfHead (headOf (now (sheet .entry)) offset «code_indented» (lazy || pierced) (length (now (raw .entry)))))) ⌝ }
 {
     let a = head(sheet, offset, code_indented, lazy, pierced, raw);
     *counts = head_counts(a);
@@ -57,9 +57,9 @@ pub extern "C" fn poolsheet_row(
     raw: &mut [Event],
     counts: &mut [usize; 2],
 ) -> u8
-    ensures { λ r. ⌜ (r ≡ rowNumber (rowOf (now (sheet .entry)) offset lazy (length (now (raw .entry)))))
+    ensures { λ r. ⌜ (r ≡ numberOfRow (rowOf (now (sheet .entry)) offset lazy (length (now (raw .entry)))))
         × ((now (raw .exit) ≡ rowSlots (now (sheet .entry)) offset lazy (length (now (raw .entry))))
-        × (now (counts .exit) ≡ rowCounts (rowOf (now (sheet .entry)) offset lazy (length (now (raw .entry)))))) ⌝ }
+        × (now (counts .exit) ≡ countsOfRow (rowOf (now (sheet .entry)) offset lazy (length (now (raw .entry)))))) ⌝ }
 {
     let a = row(sheet, offset, lazy, raw);
     *counts = row_counts(a);
@@ -73,9 +73,9 @@ pub extern "C" fn poolsheet_resolve(
     results: &mut [Event],
     counts: &mut [usize; 1],
 ) -> u8
-    ensures { λ r. ⌜ (r ≡ resolveNumber (resolveAnswer (now (list .entry)) (length (now (results .entry)))))
+    ensures { λ r. ⌜ (r ≡ numberOfResolved (resolveAnswer (now (list .entry)) (length (now (results .entry)))))
         × ((now (results .exit) ≡ resolveSlots (now (list .entry)) (length (now (results .entry))))
-        × (now (counts .exit) ≡ resolveCounts (resolveAnswer (now (list .entry)) (length (now (results .entry)))))) ⌝ }
+        × (now (counts .exit) ≡ countsOfResolved (resolveAnswer (now (list .entry)) (length (now (results .entry)))))) ⌝ }
 {
     let a = resolve(list, results);
     *counts = resolve_counts(a);
@@ -91,10 +91,10 @@ pub extern "C" fn poolsheet_edit(
     results: &mut [Event],
     counts: &mut [usize; 1],
 ) -> u8
-    ensures { λ r. ⌜ (r ≡ editNumber (editAnswer (now (list .entry)) (now (edits .entry)) (now (pool .entry)) (length (now (results .entry)))))
+    ensures { λ r. ⌜ (r ≡ numberOfEdited (editAnswer (now (list .entry)) (now (edits .entry)) (now (pool .entry)) (length (now (results .entry)))))
         × ((now (edits .exit) ≡ editSlots (now (list .entry)) (now (edits .entry)) (now (pool .entry)) (length (now (results .entry))))
         × ((now (results .exit) ≡ editResults (now (list .entry)) (now (edits .entry)) (now (pool .entry)) (length (now (results .entry))))
-        × (now (counts .exit) ≡ editCounts (editAnswer (now (list .entry)) (now (edits .entry)) (now (pool .entry)) (length (now (results .entry))))))) ⌝ }
+        × (now (counts .exit) ≡ countsOfEdited (editAnswer (now (list .entry)) (now (edits .entry)) (now (pool .entry)) (length (now (results .entry))))))) ⌝ }
 {
     let a = edit(list, edits, pool, results);
     *counts = edit_counts(a);
@@ -109,9 +109,9 @@ pub extern "C" fn poolsheet_align(
     alignments: &mut [u8],
     counts: &mut [usize; 1],
 ) -> u8
-    ensures { λ r. ⌜ (r ≡ alignNumber (alignAnswer (now (list .entry)) index (length (now (alignments .entry)))))
+    ensures { λ r. ⌜ (r ≡ numberOfAligned (alignAnswer (now (list .entry)) index (length (now (alignments .entry)))))
         × ((now (alignments .exit) ≡ alignSlots (now (list .entry)) index (length (now (alignments .entry))))
-        × (now (counts .exit) ≡ alignCounts (alignAnswer (now (list .entry)) index (length (now (alignments .entry)))))) ⌝ }
+        × (now (counts .exit) ≡ countsOfAligned (alignAnswer (now (list .entry)) index (length (now (alignments .entry)))))) ⌝ }
 {
     let a = align(list, index, alignments);
     *counts = align_counts(a);
@@ -128,11 +128,11 @@ pub extern "C" fn poolsheet_sheet(
     alignments: &mut [u8],
     counts: &mut [usize; 4],
 ) -> u8
-    ensures { λ r. ⌜ (r ≡ sheetNumber (sheetOf (now (sheet .entry)) «code_indented» (length (now (raw .entry))) (length (now (results .entry))) (length (now (alignments .entry)))))
+    ensures { λ r. ⌜ (r ≡ numberOfSheet (sheetOf (now (sheet .entry)) «code_indented» (length (now (raw .entry))) (length (now (results .entry))) (length (now (alignments .entry)))))
         × ((now (raw .exit) ≡ sheetRaw (now (sheet .entry)) «code_indented» (length (now (raw .entry))) (length (now (results .entry))) (length (now (alignments .entry))))
         × ((now (results .exit) ≡ sheetResults (now (sheet .entry)) «code_indented» (length (now (raw .entry))) (length (now (results .entry))) (length (now (alignments .entry))))
         × ((now (alignments .exit) ≡ sheetAligned (now (sheet .entry)) «code_indented» (length (now (raw .entry))) (length (now (results .entry))) (length (now (alignments .entry))))
-        × (now (counts .exit) ≡ sheetCounts (sheetOf (now (sheet .entry)) «code_indented» (length (now (raw .entry))) (length (now (results .entry))) (length (now (alignments .entry)))))))) ⌝ }
+        × (now (counts .exit) ≡ countsOfSheet (sheetOf (now (sheet .entry)) «code_indented» (length (now (raw .entry))) (length (now (results .entry))) (length (now (alignments .entry)))))))) ⌝ }
 {
     let a = sheet::sheet(sheet, code_indented, raw, results, alignments);
     *counts = sheet_counts(a);

@@ -4,7 +4,7 @@ use Rattle.tokenizer.proofs.Prelude.{_≡_, refl, sym, _∙_, ap, subst, ℕ, z
 use Rattle.edit_map.proofs.Types.{Ad, ad, ad-ty}
 use Rattle.tokenizer.proofs.Types.{Ev}
 use Rattle.edit_map.specs.Answers.{alignAnswer, alignSlots}
-use Rattle.poolsheet.specs.Answers.{alignNumber, alignCounts}
+use Rattle.poolsheet.specs.Answers.{numberOfAligned, countsOfAligned}
 use Rattle.edit_map.proofs.infer.align as infer-align
 use Rattle.edit_map.proofs.infer.align.Symbol as infer-align-def
 use Rattle.edit_map.proofs.infer.align.Symbol.{name as #edit_map·infer·align}
@@ -69,7 +69,7 @@ module _ {M : Type 1} (𝓤 : URA M) (H : Heap 𝓤) (A : Atoms 𝓤) (W : Given
     abbrev Post : Val → SProp 𝓤
     Post = walkOf 𝓤 H A poolsheet-align.ended stayed (poolsheet-align.clauses 𝓤 H A mem run′) .post (((κ, (κ′, (κ″, tt))), (q, (q′, (q″, tt))), tt, x, vs), tt)
 
-    exits : (zs′ : List (u8 .Denot)) (zs′-len : length zs′ ≡ length ys) (h : (Array usize 1) .Denot) (r : u8 .Denot) (r-ok : Is u8 r (vals (uint-data w8) r)) (said : (r ≡ alignNumber (alignAnswer xs i (length ys))) × ((zs′ ≡ alignSlots xs i (length ys)) × (h ≡ alignCounts (alignAnswer xs i (length ys))))) → ent 𝓤 (⋆ 𝓤 H A (‵ (Shr Ev κ b o (length xs) γ xs) ∷ ‵ (flft κ q) ∷ ‵ (Mut u8 κ′ b′ o′ (length ys) γ′ zs′) ∷ ‵ (flft κ′ q′) ∷ ‵ (MutRef erased κ″ (Array usize 1) .own (rf b″ o″ γ″ h) (vptr b″ o″ ∷ [])) ∷ ‵ (flft κ″ q″) ∷ [])) (Post ((uint-data w8) .val r))
+    exits : (zs′ : List (u8 .Denot)) (zs′-len : length zs′ ≡ length ys) (h : (Array usize 1) .Denot) (r : u8 .Denot) (r-ok : Is u8 r (vals (uint-data w8) r)) (said : (r ≡ numberOfAligned (alignAnswer xs i (length ys))) × ((zs′ ≡ alignSlots xs i (length ys)) × (h ≡ countsOfAligned (alignAnswer xs i (length ys))))) → ent 𝓤 (⋆ 𝓤 H A (‵ (Shr Ev κ b o (length xs) γ xs) ∷ ‵ (flft κ q) ∷ ‵ (Mut u8 κ′ b′ o′ (length ys) γ′ zs′) ∷ ‵ (flft κ′ q′) ∷ ‵ (MutRef erased κ″ (Array usize 1) .own (rf b″ o″ γ″ h) (vptr b″ o″ ∷ [])) ∷ ‵ (flft κ″ q″) ∷ [])) (Post ((uint-data w8) .val r))
     exits zs′ zs′-len h r r-ok said =
         qed W (‵ (Shr Ev κ b o (length xs) γ xs) ∷ ‵ (flft κ q) ∷ ‵ (Mut u8 κ′ b′ o′ (length ys) γ′ zs′) ∷ ‵ (flft κ′ q′) ∷ ‵ (MutRef erased κ″ (Array usize 1) .own (rf b″ o″ γ″ h) (vptr b″ o″ ∷ [])) ∷ ‵ (flft κ″ q″) ∷ []) ∵
         suffices ! _ (ends-at 𝓤 H A poolsheet-align.ended stayed (poolsheet-align.clauses 𝓤 H A mem run′) W (((κ, (κ′, (κ″, tt))), (q, (q′, (q″, tt))), tt, x, vs), tt) ((uint-data w8) .val r) r (tt, (tt, (zs′, (h, tt)))) (tt, (tt, (zs′-len, (tt, tt))))) $ says ! said $
@@ -83,10 +83,10 @@ module _ {M : Type 1} (𝓤 : URA M) (H : Heap 𝓤) (A : Atoms 𝓤) (W : Given
     ys1 = alignSlots xs i (length ys)
 
     abbrev r2 : (Array usize 1) .Denot
-    r2 = alignCounts r1
+    r2 = countsOfAligned r1
 
     abbrev r3 : u8 .Denot
-    r3 = alignNumber r1
+    r3 = numberOfAligned r1
 
     module _ (𝓣 : Tables 𝓤 H) (known-infer-align : Triple 𝓤 (𝓣 .C #edit_map·infer·align) (InferAlign′ 𝓤 H A mem run′)) (known-answers-align-counts : Triple 𝓤 (𝓣 .C #poolsheet·answers·align-counts) (AnswersAlignCounts′ 𝓤 H A mem run′)) (known-answers-align-number : Triple 𝓤 (𝓣 .C #poolsheet·answers·align-number) (AnswersAlignNumber′ 𝓤 H A mem run′)) (l₀ l₁ l₂ l₃ l₄ l₅ l₆ l₇ l₈ : ℕ) where
       abbrev C : Calls 𝓤 H

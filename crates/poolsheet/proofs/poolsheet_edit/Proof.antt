@@ -4,7 +4,7 @@ use Rattle.tokenizer.proofs.Prelude.{_≡_, refl, sym, _∙_, ap, subst, ℕ, z
 use Rattle.edit_map.proofs.EditTypes.{Ed, ed, ed-ty}
 use Rattle.tokenizer.proofs.Types.{Ev}
 use Rattle.edit_map.specs.EditAnswer.{editAnswer, editSlots, editResults}
-use Rattle.poolsheet.specs.Answers.{editNumber, editCounts}
+use Rattle.poolsheet.specs.Answers.{numberOfEdited, countsOfEdited}
 use Rattle.edit_map.proofs.edit_map.edit as edit-map-edit
 use Rattle.edit_map.proofs.edit_map.edit.Symbol as edit-map-edit-def
 use Rattle.edit_map.proofs.edit_map.edit.Symbol.{name as #edit_map·edit-map·edit}
@@ -69,7 +69,7 @@ module _ {M : Type 1} (𝓤 : URA M) (H : Heap 𝓤) (A : Atoms 𝓤) (W : Given
     abbrev Post : Val → SProp 𝓤
     Post = walkOf 𝓤 H A poolsheet-edit.ended stayed (poolsheet-edit.clauses 𝓤 H A mem run′) .post (((κ, (κ′, (κ″, (κ‴, (κ⁗, tt))))), (q, (q′, (q″, (q‴, (q⁗, tt))))), tt, x, vs), tt)
 
-    exits : (zs′ : List (usize .Denot)) (zs‴ : List (Ev .Denot)) (zs′-len : length zs′ ≡ length es) (zs‴-len : length zs‴ ≡ length ys) (h : (Array usize 1) .Denot) (r : u8 .Denot) (r-ok : Is u8 r (vals (uint-data w8) r)) (said : (r ≡ editNumber (editAnswer xs es ps (length ys))) × ((zs′ ≡ editSlots xs es ps (length ys)) × ((zs‴ ≡ editResults xs es ps (length ys)) × (h ≡ editCounts (editAnswer xs es ps (length ys)))))) → ent 𝓤 (⋆ 𝓤 H A (‵ (Shr Ev κ b o (length xs) γ xs) ∷ ‵ (flft κ q) ∷ ‵ (Mut usize κ′ b′ o′ (length es) γ′ zs′) ∷ ‵ (flft κ′ q′) ∷ ‵ (Shr Ev κ″ b″ o″ (length ps) γ″ ps) ∷ ‵ (flft κ″ q″) ∷ ‵ (Mut Ev κ‴ b‴ o‴ (length ys) γ‴ zs‴) ∷ ‵ (flft κ‴ q‴) ∷ ‵ (MutRef erased κ⁗ (Array usize 1) .own (rf b⁗ o⁗ γ⁗ h) (vptr b⁗ o⁗ ∷ [])) ∷ ‵ (flft κ⁗ q⁗) ∷ [])) (Post ((uint-data w8) .val r))
+    exits : (zs′ : List (usize .Denot)) (zs‴ : List (Ev .Denot)) (zs′-len : length zs′ ≡ length es) (zs‴-len : length zs‴ ≡ length ys) (h : (Array usize 1) .Denot) (r : u8 .Denot) (r-ok : Is u8 r (vals (uint-data w8) r)) (said : (r ≡ numberOfEdited (editAnswer xs es ps (length ys))) × ((zs′ ≡ editSlots xs es ps (length ys)) × ((zs‴ ≡ editResults xs es ps (length ys)) × (h ≡ countsOfEdited (editAnswer xs es ps (length ys)))))) → ent 𝓤 (⋆ 𝓤 H A (‵ (Shr Ev κ b o (length xs) γ xs) ∷ ‵ (flft κ q) ∷ ‵ (Mut usize κ′ b′ o′ (length es) γ′ zs′) ∷ ‵ (flft κ′ q′) ∷ ‵ (Shr Ev κ″ b″ o″ (length ps) γ″ ps) ∷ ‵ (flft κ″ q″) ∷ ‵ (Mut Ev κ‴ b‴ o‴ (length ys) γ‴ zs‴) ∷ ‵ (flft κ‴ q‴) ∷ ‵ (MutRef erased κ⁗ (Array usize 1) .own (rf b⁗ o⁗ γ⁗ h) (vptr b⁗ o⁗ ∷ [])) ∷ ‵ (flft κ⁗ q⁗) ∷ [])) (Post ((uint-data w8) .val r))
     exits zs′ zs‴ zs′-len zs‴-len h r r-ok said =
         qed W (‵ (Shr Ev κ b o (length xs) γ xs) ∷ ‵ (flft κ q) ∷ ‵ (Mut usize κ′ b′ o′ (length es) γ′ zs′) ∷ ‵ (flft κ′ q′) ∷ ‵ (Shr Ev κ″ b″ o″ (length ps) γ″ ps) ∷ ‵ (flft κ″ q″) ∷ ‵ (Mut Ev κ‴ b‴ o‴ (length ys) γ‴ zs‴) ∷ ‵ (flft κ‴ q‴) ∷ ‵ (MutRef erased κ⁗ (Array usize 1) .own (rf b⁗ o⁗ γ⁗ h) (vptr b⁗ o⁗ ∷ [])) ∷ ‵ (flft κ⁗ q⁗) ∷ []) ∵
         suffices ! _ (ends-at 𝓤 H A poolsheet-edit.ended stayed (poolsheet-edit.clauses 𝓤 H A mem run′) W (((κ, (κ′, (κ″, (κ‴, (κ⁗, tt))))), (q, (q′, (q″, (q‴, (q⁗, tt))))), tt, x, vs), tt) ((uint-data w8) .val r) r (tt, (zs′, (tt, (zs‴, (h, tt))))) (tt, (zs′-len, (tt, (zs‴-len, (tt, tt)))))) $ says ! said $
@@ -86,10 +86,10 @@ module _ {M : Type 1} (𝓤 : URA M) (H : Heap 𝓤) (A : Atoms 𝓤) (W : Given
     ys1 = editResults xs es ps (length ys)
 
     abbrev r2 : (Array usize 1) .Denot
-    r2 = editCounts r1
+    r2 = countsOfEdited r1
 
     abbrev r3 : u8 .Denot
-    r3 = editNumber r1
+    r3 = numberOfEdited r1
 
     module _ (𝓣 : Tables 𝓤 H) (known-edit-map-edit : Triple 𝓤 (𝓣 .C #edit_map·edit-map·edit) (EditMapEdit′ 𝓤 H A mem run′)) (known-answers-edit-counts : Triple 𝓤 (𝓣 .C #poolsheet·answers·edit-counts) (AnswersEditCounts′ 𝓤 H A mem run′)) (known-answers-edit-number : Triple 𝓤 (𝓣 .C #poolsheet·answers·edit-number) (AnswersEditNumber′ 𝓤 H A mem run′)) (l₀ l₁ l₂ l₃ l₄ l₅ l₆ l₇ l₈ l₉ l₁₀ l₁₁ : ℕ) where
       abbrev C : Calls 𝓤 H

@@ -5,7 +5,7 @@ use Rattle.gfm_table.proofs.Types.{He, he, he-ty}
 use Rattle.tokenizer.proofs.Types.{Ev}
 use mathlib.Core.Bool.{_||_}
 use Rattle.gfm_table.specs.Calls.{headOf, headSlots}
-use Rattle.poolsheet.specs.Answers.{headNumber, headCounts}
+use Rattle.poolsheet.specs.Answers.{numberOfHead, countsOfHead}
 use Rattle.gfm_table.proofs.head as head
 use Rattle.gfm_table.proofs.head.Symbol as head-def
 use Rattle.gfm_table.proofs.head.Symbol.{name as #gfm_table·head}
@@ -70,7 +70,7 @@ module _ {M : Type 1} (𝓤 : URA M) (H : Heap 𝓤) (A : Atoms 𝓤) (W : Given
     abbrev Post : Val → SProp 𝓤
     Post = walkOf 𝓤 H A poolsheet-head.ended stayed (poolsheet-head.clauses 𝓤 H A mem run′) .post (((κ, (κ′, (κ″, tt))), (q, (q′, (q″, tt))), tt, x, vs), tt)
 
-    exits : (zs′ : List (Ev .Denot)) (zs′-len : length zs′ ≡ length ys) (h : (Array usize 3) .Denot) (r : u8 .Denot) (r-ok : Is u8 r (vals (uint-data w8) r)) (said : (r ≡ headNumber (headOf sheet off on (lz || pc) (length ys))) × ((zs′ ≡ headSlots sheet off on (lz || pc) (length ys)) × (h ≡ headCounts (headOf sheet off on (lz || pc) (length ys))))) → ent 𝓤 (⋆ 𝓤 H A (‵ (Shr u8 κ b o (length sheet) γ sheet) ∷ ‵ (flft κ q) ∷ ‵ (Mut Ev κ′ b′ o′ (length ys) γ′ zs′) ∷ ‵ (flft κ′ q′) ∷ ‵ (MutRef erased κ″ (Array usize 3) .own (rf b″ o″ γ″ h) (vptr b″ o″ ∷ [])) ∷ ‵ (flft κ″ q″) ∷ [])) (Post ((uint-data w8) .val r))
+    exits : (zs′ : List (Ev .Denot)) (zs′-len : length zs′ ≡ length ys) (h : (Array usize 3) .Denot) (r : u8 .Denot) (r-ok : Is u8 r (vals (uint-data w8) r)) (said : (r ≡ numberOfHead (headOf sheet off on (lz || pc) (length ys))) × ((zs′ ≡ headSlots sheet off on (lz || pc) (length ys)) × (h ≡ countsOfHead (headOf sheet off on (lz || pc) (length ys))))) → ent 𝓤 (⋆ 𝓤 H A (‵ (Shr u8 κ b o (length sheet) γ sheet) ∷ ‵ (flft κ q) ∷ ‵ (Mut Ev κ′ b′ o′ (length ys) γ′ zs′) ∷ ‵ (flft κ′ q′) ∷ ‵ (MutRef erased κ″ (Array usize 3) .own (rf b″ o″ γ″ h) (vptr b″ o″ ∷ [])) ∷ ‵ (flft κ″ q″) ∷ [])) (Post ((uint-data w8) .val r))
     exits zs′ zs′-len h r r-ok said =
         qed W (‵ (Shr u8 κ b o (length sheet) γ sheet) ∷ ‵ (flft κ q) ∷ ‵ (Mut Ev κ′ b′ o′ (length ys) γ′ zs′) ∷ ‵ (flft κ′ q′) ∷ ‵ (MutRef erased κ″ (Array usize 3) .own (rf b″ o″ γ″ h) (vptr b″ o″ ∷ [])) ∷ ‵ (flft κ″ q″) ∷ []) ∵
         suffices ! _ (ends-at 𝓤 H A poolsheet-head.ended stayed (poolsheet-head.clauses 𝓤 H A mem run′) W (((κ, (κ′, (κ″, tt))), (q, (q′, (q″, tt))), tt, x, vs), tt) ((uint-data w8) .val r) r (tt, (tt, (tt, (tt, (tt, (zs′, (h, tt))))))) (tt, (tt, (tt, (tt, (tt, (zs′-len, (tt, tt)))))))) $ says ! said $
@@ -84,10 +84,10 @@ module _ {M : Type 1} (𝓤 : URA M) (H : Heap 𝓤) (A : Atoms 𝓤) (W : Given
     ys1 = headSlots sheet off on (lz || pc) (length ys)
 
     abbrev r2 : (Array usize 3) .Denot
-    r2 = headCounts r1
+    r2 = countsOfHead r1
 
     abbrev r3 : u8 .Denot
-    r3 = headNumber r1
+    r3 = numberOfHead r1
 
     module _ (𝓣 : Tables 𝓤 H) (known-head : Triple 𝓤 (𝓣 .C #gfm_table·head) (Head′ 𝓤 H A mem run′)) (known-answers-head-counts : Triple 𝓤 (𝓣 .C #poolsheet·answers·head-counts) (AnswersHeadCounts′ 𝓤 H A mem run′)) (known-answers-head-number : Triple 𝓤 (𝓣 .C #poolsheet·answers·head-number) (AnswersHeadNumber′ 𝓤 H A mem run′)) (l₀ l₁ l₂ l₃ l₄ l₅ l₆ l₇ l₈ l₉ l₁₀ l₁₁ : ℕ) where
       abbrev C : Calls 𝓤 H

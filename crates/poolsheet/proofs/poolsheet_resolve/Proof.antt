@@ -4,7 +4,7 @@ use Rattle.tokenizer.proofs.Prelude.{_≡_, refl, sym, _∙_, ap, subst, ℕ, z
 use Rattle.edit_map.proofs.Types.{Rz, rz, rz-ty}
 use Rattle.tokenizer.proofs.Types.{Ev}
 use Rattle.edit_map.specs.Answers.{resolveAnswer, resolveSlots}
-use Rattle.poolsheet.specs.Answers.{resolveNumber, resolveCounts}
+use Rattle.poolsheet.specs.Answers.{numberOfResolved, countsOfResolved}
 use Rattle.edit_map.proofs.resolve.resolve as resolve-resolve
 use Rattle.edit_map.proofs.resolve.resolve.Symbol as resolve-resolve-def
 use Rattle.edit_map.proofs.resolve.resolve.Symbol.{name as #edit_map·resolve·resolve}
@@ -69,7 +69,7 @@ module _ {M : Type 1} (𝓤 : URA M) (H : Heap 𝓤) (A : Atoms 𝓤) (W : Given
     abbrev Post : Val → SProp 𝓤
     Post = walkOf 𝓤 H A poolsheet-resolve.ended stayed (poolsheet-resolve.clauses 𝓤 H A mem run′) .post (((κ, (κ′, (κ″, tt))), (q, (q′, (q″, tt))), tt, x, vs), tt)
 
-    exits : (zs′ : List (Ev .Denot)) (zs′-len : length zs′ ≡ length ys) (h : (Array usize 1) .Denot) (r : u8 .Denot) (r-ok : Is u8 r (vals (uint-data w8) r)) (said : (r ≡ resolveNumber (resolveAnswer xs (length ys))) × ((zs′ ≡ resolveSlots xs (length ys)) × (h ≡ resolveCounts (resolveAnswer xs (length ys))))) → ent 𝓤 (⋆ 𝓤 H A (‵ (Shr Ev κ b o (length xs) γ xs) ∷ ‵ (flft κ q) ∷ ‵ (Mut Ev κ′ b′ o′ (length ys) γ′ zs′) ∷ ‵ (flft κ′ q′) ∷ ‵ (MutRef erased κ″ (Array usize 1) .own (rf b″ o″ γ″ h) (vptr b″ o″ ∷ [])) ∷ ‵ (flft κ″ q″) ∷ [])) (Post ((uint-data w8) .val r))
+    exits : (zs′ : List (Ev .Denot)) (zs′-len : length zs′ ≡ length ys) (h : (Array usize 1) .Denot) (r : u8 .Denot) (r-ok : Is u8 r (vals (uint-data w8) r)) (said : (r ≡ numberOfResolved (resolveAnswer xs (length ys))) × ((zs′ ≡ resolveSlots xs (length ys)) × (h ≡ countsOfResolved (resolveAnswer xs (length ys))))) → ent 𝓤 (⋆ 𝓤 H A (‵ (Shr Ev κ b o (length xs) γ xs) ∷ ‵ (flft κ q) ∷ ‵ (Mut Ev κ′ b′ o′ (length ys) γ′ zs′) ∷ ‵ (flft κ′ q′) ∷ ‵ (MutRef erased κ″ (Array usize 1) .own (rf b″ o″ γ″ h) (vptr b″ o″ ∷ [])) ∷ ‵ (flft κ″ q″) ∷ [])) (Post ((uint-data w8) .val r))
     exits zs′ zs′-len h r r-ok said =
         qed W (‵ (Shr Ev κ b o (length xs) γ xs) ∷ ‵ (flft κ q) ∷ ‵ (Mut Ev κ′ b′ o′ (length ys) γ′ zs′) ∷ ‵ (flft κ′ q′) ∷ ‵ (MutRef erased κ″ (Array usize 1) .own (rf b″ o″ γ″ h) (vptr b″ o″ ∷ [])) ∷ ‵ (flft κ″ q″) ∷ []) ∵
         suffices ! _ (ends-at 𝓤 H A poolsheet-resolve.ended stayed (poolsheet-resolve.clauses 𝓤 H A mem run′) W (((κ, (κ′, (κ″, tt))), (q, (q′, (q″, tt))), tt, x, vs), tt) ((uint-data w8) .val r) r (tt, (zs′, (h, tt))) (tt, (zs′-len, (tt, tt)))) $ says ! said $
@@ -83,10 +83,10 @@ module _ {M : Type 1} (𝓤 : URA M) (H : Heap 𝓤) (A : Atoms 𝓤) (W : Given
     ys1 = resolveSlots xs (length ys)
 
     abbrev r2 : (Array usize 1) .Denot
-    r2 = resolveCounts r1
+    r2 = countsOfResolved r1
 
     abbrev r3 : u8 .Denot
-    r3 = resolveNumber r1
+    r3 = numberOfResolved r1
 
     module _ (𝓣 : Tables 𝓤 H) (known-resolve-resolve : Triple 𝓤 (𝓣 .C #edit_map·resolve·resolve) (ResolveResolve′ 𝓤 H A mem run′)) (known-answers-resolve-counts : Triple 𝓤 (𝓣 .C #poolsheet·answers·resolve-counts) (AnswersResolveCounts′ 𝓤 H A mem run′)) (known-answers-resolve-number : Triple 𝓤 (𝓣 .C #poolsheet·answers·resolve-number) (AnswersResolveNumber′ 𝓤 H A mem run′)) (l₀ l₁ l₂ l₃ l₄ l₅ l₆ l₇ : ℕ) where
       abbrev C : Calls 𝓤 H

@@ -4,7 +4,7 @@ use Rattle.tokenizer.proofs.Prelude.{_≡_, refl, sym, _∙_, ap, subst, ℕ, z
 use Rattle.gfm_table.proofs.Types.{Ro, ro, ro-ty}
 use Rattle.tokenizer.proofs.Types.{Ev}
 use Rattle.gfm_table.specs.Calls.{rowOf, rowSlots}
-use Rattle.poolsheet.specs.Answers.{rowNumber, rowCounts}
+use Rattle.poolsheet.specs.Answers.{numberOfRow, countsOfRow}
 use Rattle.gfm_table.proofs.row as row
 use Rattle.gfm_table.proofs.row.Symbol as row-def
 use Rattle.gfm_table.proofs.row.Symbol.{name as #gfm_table·row}
@@ -69,7 +69,7 @@ module _ {M : Type 1} (𝓤 : URA M) (H : Heap 𝓤) (A : Atoms 𝓤) (W : Given
     abbrev Post : Val → SProp 𝓤
     Post = walkOf 𝓤 H A poolsheet-row.ended stayed (poolsheet-row.clauses 𝓤 H A mem run′) .post (((κ, (κ′, (κ″, tt))), (q, (q′, (q″, tt))), tt, x, vs), tt)
 
-    exits : (zs′ : List (Ev .Denot)) (zs′-len : length zs′ ≡ length ys) (h : (Array usize 2) .Denot) (r : u8 .Denot) (r-ok : Is u8 r (vals (uint-data w8) r)) (said : (r ≡ rowNumber (rowOf text off lz (length ys))) × ((zs′ ≡ rowSlots text off lz (length ys)) × (h ≡ rowCounts (rowOf text off lz (length ys))))) → ent 𝓤 (⋆ 𝓤 H A (‵ (Shr u8 κ b o (length text) γ text) ∷ ‵ (flft κ q) ∷ ‵ (Mut Ev κ′ b′ o′ (length ys) γ′ zs′) ∷ ‵ (flft κ′ q′) ∷ ‵ (MutRef erased κ″ (Array usize 2) .own (rf b″ o″ γ″ h) (vptr b″ o″ ∷ [])) ∷ ‵ (flft κ″ q″) ∷ [])) (Post ((uint-data w8) .val r))
+    exits : (zs′ : List (Ev .Denot)) (zs′-len : length zs′ ≡ length ys) (h : (Array usize 2) .Denot) (r : u8 .Denot) (r-ok : Is u8 r (vals (uint-data w8) r)) (said : (r ≡ numberOfRow (rowOf text off lz (length ys))) × ((zs′ ≡ rowSlots text off lz (length ys)) × (h ≡ countsOfRow (rowOf text off lz (length ys))))) → ent 𝓤 (⋆ 𝓤 H A (‵ (Shr u8 κ b o (length text) γ text) ∷ ‵ (flft κ q) ∷ ‵ (Mut Ev κ′ b′ o′ (length ys) γ′ zs′) ∷ ‵ (flft κ′ q′) ∷ ‵ (MutRef erased κ″ (Array usize 2) .own (rf b″ o″ γ″ h) (vptr b″ o″ ∷ [])) ∷ ‵ (flft κ″ q″) ∷ [])) (Post ((uint-data w8) .val r))
     exits zs′ zs′-len h r r-ok said =
         qed W (‵ (Shr u8 κ b o (length text) γ text) ∷ ‵ (flft κ q) ∷ ‵ (Mut Ev κ′ b′ o′ (length ys) γ′ zs′) ∷ ‵ (flft κ′ q′) ∷ ‵ (MutRef erased κ″ (Array usize 2) .own (rf b″ o″ γ″ h) (vptr b″ o″ ∷ [])) ∷ ‵ (flft κ″ q″) ∷ []) ∵
         suffices ! _ (ends-at 𝓤 H A poolsheet-row.ended stayed (poolsheet-row.clauses 𝓤 H A mem run′) W (((κ, (κ′, (κ″, tt))), (q, (q′, (q″, tt))), tt, x, vs), tt) ((uint-data w8) .val r) r (tt, (tt, (tt, (zs′, (h, tt))))) (tt, (tt, (tt, (zs′-len, (tt, tt)))))) $ says ! said $
@@ -83,10 +83,10 @@ module _ {M : Type 1} (𝓤 : URA M) (H : Heap 𝓤) (A : Atoms 𝓤) (W : Given
     ys1 = rowSlots text off lz (length ys)
 
     abbrev r2 : (Array usize 2) .Denot
-    r2 = rowCounts r1
+    r2 = countsOfRow r1
 
     abbrev r3 : u8 .Denot
-    r3 = rowNumber r1
+    r3 = numberOfRow r1
 
     module _ (𝓣 : Tables 𝓤 H) (known-row : Triple 𝓤 (𝓣 .C #gfm_table·row) (Row′ 𝓤 H A mem run′)) (known-answers-row-counts : Triple 𝓤 (𝓣 .C #poolsheet·answers·row-counts) (AnswersRowCounts′ 𝓤 H A mem run′)) (known-answers-row-number : Triple 𝓤 (𝓣 .C #poolsheet·answers·row-number) (AnswersRowNumber′ 𝓤 H A mem run′)) (l₀ l₁ l₂ l₃ l₄ l₅ l₆ l₇ l₈ l₉ : ℕ) where
       abbrev C : Calls 𝓤 H

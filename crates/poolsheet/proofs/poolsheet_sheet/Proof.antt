@@ -4,7 +4,7 @@ use Rattle.tokenizer.proofs.Prelude.{_≡_, refl, sym, _∙_, ap, subst, ℕ, z
 use Rattle.sheet.proofs.Types.{Sh, sh, sh-ty}
 use Rattle.tokenizer.proofs.Types.{Ev}
 use Rattle.sheet.specs.Calls.{sheetOf, sheetRaw, sheetResults, sheetAligned}
-use Rattle.poolsheet.specs.Answers.{sheetNumber, sheetCounts}
+use Rattle.poolsheet.specs.Answers.{numberOfSheet, countsOfSheet}
 use Rattle.sheet.proofs.sheet as sheet
 use Rattle.sheet.proofs.sheet.Symbol as sheet-def
 use Rattle.sheet.proofs.sheet.Symbol.{name as #sheet·sheet}
@@ -69,7 +69,7 @@ module _ {M : Type 1} (𝓤 : URA M) (H : Heap 𝓤) (A : Atoms 𝓤) (W : Given
     abbrev Post : Val → SProp 𝓤
     Post = walkOf 𝓤 H A poolsheet-sheet.ended stayed (poolsheet-sheet.clauses 𝓤 H A mem run′) .post (((κ, (κ′, (κ″, (κ‴, (κ⁗, tt))))), (q, (q′, (q″, (q‴, (q⁗, tt))))), tt, x, vs), tt)
 
-    exits : (zs′ : List (Ev .Denot)) (zs″ : List (Ev .Denot)) (zs‴ : List (u8 .Denot)) (zs′-len : length zs′ ≡ length ys) (zs″-len : length zs″ ≡ length rs) (zs‴-len : length zs‴ ≡ length al) (h : (Array usize 4) .Denot) (r : u8 .Denot) (r-ok : Is u8 r (vals (uint-data w8) r)) (said : (r ≡ sheetNumber (sheetOf text on (length ys) (length rs) (length al))) × ((zs′ ≡ sheetRaw text on (length ys) (length rs) (length al)) × ((zs″ ≡ sheetResults text on (length ys) (length rs) (length al)) × ((zs‴ ≡ sheetAligned text on (length ys) (length rs) (length al)) × (h ≡ sheetCounts (sheetOf text on (length ys) (length rs) (length al))))))) → ent 𝓤 (⋆ 𝓤 H A (‵ (Shr u8 κ b o (length text) γ text) ∷ ‵ (flft κ q) ∷ ‵ (Mut Ev κ′ b′ o′ (length ys) γ′ zs′) ∷ ‵ (flft κ′ q′) ∷ ‵ (Mut Ev κ″ b″ o″ (length rs) γ″ zs″) ∷ ‵ (flft κ″ q″) ∷ ‵ (Mut u8 κ‴ b‴ o‴ (length al) γ‴ zs‴) ∷ ‵ (flft κ‴ q‴) ∷ ‵ (MutRef erased κ⁗ (Array usize 4) .own (rf b⁗ o⁗ γ⁗ h) (vptr b⁗ o⁗ ∷ [])) ∷ ‵ (flft κ⁗ q⁗) ∷ [])) (Post ((uint-data w8) .val r))
+    exits : (zs′ : List (Ev .Denot)) (zs″ : List (Ev .Denot)) (zs‴ : List (u8 .Denot)) (zs′-len : length zs′ ≡ length ys) (zs″-len : length zs″ ≡ length rs) (zs‴-len : length zs‴ ≡ length al) (h : (Array usize 4) .Denot) (r : u8 .Denot) (r-ok : Is u8 r (vals (uint-data w8) r)) (said : (r ≡ numberOfSheet (sheetOf text on (length ys) (length rs) (length al))) × ((zs′ ≡ sheetRaw text on (length ys) (length rs) (length al)) × ((zs″ ≡ sheetResults text on (length ys) (length rs) (length al)) × ((zs‴ ≡ sheetAligned text on (length ys) (length rs) (length al)) × (h ≡ countsOfSheet (sheetOf text on (length ys) (length rs) (length al))))))) → ent 𝓤 (⋆ 𝓤 H A (‵ (Shr u8 κ b o (length text) γ text) ∷ ‵ (flft κ q) ∷ ‵ (Mut Ev κ′ b′ o′ (length ys) γ′ zs′) ∷ ‵ (flft κ′ q′) ∷ ‵ (Mut Ev κ″ b″ o″ (length rs) γ″ zs″) ∷ ‵ (flft κ″ q″) ∷ ‵ (Mut u8 κ‴ b‴ o‴ (length al) γ‴ zs‴) ∷ ‵ (flft κ‴ q‴) ∷ ‵ (MutRef erased κ⁗ (Array usize 4) .own (rf b⁗ o⁗ γ⁗ h) (vptr b⁗ o⁗ ∷ [])) ∷ ‵ (flft κ⁗ q⁗) ∷ [])) (Post ((uint-data w8) .val r))
     exits zs′ zs″ zs‴ zs′-len zs″-len zs‴-len h r r-ok said =
         qed W (‵ (Shr u8 κ b o (length text) γ text) ∷ ‵ (flft κ q) ∷ ‵ (Mut Ev κ′ b′ o′ (length ys) γ′ zs′) ∷ ‵ (flft κ′ q′) ∷ ‵ (Mut Ev κ″ b″ o″ (length rs) γ″ zs″) ∷ ‵ (flft κ″ q″) ∷ ‵ (Mut u8 κ‴ b‴ o‴ (length al) γ‴ zs‴) ∷ ‵ (flft κ‴ q‴) ∷ ‵ (MutRef erased κ⁗ (Array usize 4) .own (rf b⁗ o⁗ γ⁗ h) (vptr b⁗ o⁗ ∷ [])) ∷ ‵ (flft κ⁗ q⁗) ∷ []) ∵
         suffices ! _ (ends-at 𝓤 H A poolsheet-sheet.ended stayed (poolsheet-sheet.clauses 𝓤 H A mem run′) W (((κ, (κ′, (κ″, (κ‴, (κ⁗, tt))))), (q, (q′, (q″, (q‴, (q⁗, tt))))), tt, x, vs), tt) ((uint-data w8) .val r) r (tt, (tt, (zs′, (zs″, (zs‴, (h, tt)))))) (tt, (tt, (zs′-len, (zs″-len, (zs‴-len, (tt, tt))))))) $ says ! said $
@@ -89,10 +89,10 @@ module _ {M : Type 1} (𝓤 : URA M) (H : Heap 𝓤) (A : Atoms 𝓤) (W : Given
     al1 = sheetAligned text on (length ys) (length rs) (length al)
 
     abbrev r2 : (Array usize 4) .Denot
-    r2 = sheetCounts r1
+    r2 = countsOfSheet r1
 
     abbrev r3 : u8 .Denot
-    r3 = sheetNumber r1
+    r3 = numberOfSheet r1
 
     module _ (𝓣 : Tables 𝓤 H) (known-sheet : Triple 𝓤 (𝓣 .C #sheet·sheet) (Sheet′ 𝓤 H A mem run′)) (known-answers-sheet-counts : Triple 𝓤 (𝓣 .C #poolsheet·answers·sheet-counts) (AnswersSheetCounts′ 𝓤 H A mem run′)) (known-answers-sheet-number : Triple 𝓤 (𝓣 .C #poolsheet·answers·sheet-number) (AnswersSheetNumber′ 𝓤 H A mem run′)) (l₀ l₁ l₂ l₃ l₄ l₅ l₆ l₇ l₈ l₉ l₁₀ l₁₁ l₁₂ l₁₃ l₁₄ : ℕ) where
       abbrev C : Calls 𝓤 H
@@ -105,7 +105,7 @@ module _ {M : Type 1} (𝓤 : URA M) (H : Heap 𝓤) (A : Atoms 𝓤) (W : Given
       En = (tyInt w8, l₀) ∷ (sliceTy (tyRef (named 0) imm (pointee (u8 .written))), l₁) ∷ (tyBool, l₂) ∷ (sliceTy (tyRef (named 1) mut (pointee (Ev .written))), l₃) ∷ (sliceTy (tyRef (named 2) mut (pointee (Ev .written))), l₄) ∷ (sliceTy (tyRef (named 3) mut (pointee (u8 .written))), l₅) ∷ (tyRef (named 4) mut (pointee ((Array usize 4) .written)), l₆) ∷ (sh-ty, l₇) ∷ (tyRef erased mut (pointee (Ev .written)), l₈) ∷ (sliceTy (tyRef erased mut (pointee (Ev .written))), l₉) ∷ (tyRef erased mut (pointee (Ev .written)), l₁₀) ∷ (sliceTy (tyRef erased mut (pointee (Ev .written))), l₁₁) ∷ (tyRef erased mut (pointee (u8 .written)), l₁₂) ∷ (sliceTy (tyRef erased mut (pointee (u8 .written))), l₁₃) ∷ (tyArray (tyInt w64) 4, l₁₄) ∷ []
 
       -- the end of the body, by itself: there are fewer names there, and the check is quicker
-      leaves : (zs′ : List (Ev .Denot)) (zs″ : List (Ev .Denot)) (zs‴ : List (u8 .Denot)) (zs′-len : length zs′ ≡ length ys) (zs″-len : length zs″ ≡ length rs) (zs‴-len : length zs‴ ≡ length al) (h : (Array usize 4) .Denot) (r : u8 .Denot) (r-ok : Is u8 r (vals (uint-data w8) r)) (said : (r ≡ sheetNumber (sheetOf text on (length ys) (length rs) (length al))) × ((zs′ ≡ sheetRaw text on (length ys) (length rs) (length al)) × ((zs″ ≡ sheetResults text on (length ys) (length rs) (length al)) × ((zs‴ ≡ sheetAligned text on (length ys) (length rs) (length al)) × (h ≡ sheetCounts (sheetOf text on (length ys) (length rs) (length al))))))) → Sq W (‵ (Shr u8 κ b o (length text) γ text) ∷ ‵ (flft κ q) ∷ ‵ (Mut Ev κ′ b′ o′ (length ys) γ′ zs′) ∷ ‵ (flft κ′ q′) ∷ ‵ (Mut Ev κ″ b″ o″ (length rs) γ″ zs″) ∷ ‵ (flft κ″ q″) ∷ ‵ (Mut u8 κ‴ b‴ o‴ (length al) γ‴ zs‴) ∷ ‵ (flft κ‴ q‴) ∷ ‵ (MutRef erased κ⁗ (Array usize 4) .own (rf b⁗ o⁗ γ⁗ h) (vptr b⁗ o⁗ ∷ [])) ∷ ‵ (flft κ⁗ q⁗) ∷ ‵ (froom (tyArray (tyInt w64) 4) l₁₄ 0) ∷ ‵ (fdies (tyArray (tyInt w64) 4) l₁₄) ∷ ‵ (froom (sliceTy (tyRef erased mut (pointee (u8 .written)))) l₁₃ 0) ∷ ‵ (fdies (sliceTy (tyRef erased mut (pointee (u8 .written)))) l₁₃) ∷ ‵ (froom (tyRef erased mut (pointee (u8 .written))) l₁₂ 0) ∷ ‵ (fdies (tyRef erased mut (pointee (u8 .written))) l₁₂) ∷ ‵ (froom (sliceTy (tyRef erased mut (pointee (Ev .written)))) l₁₁ 0) ∷ ‵ (fdies (sliceTy (tyRef erased mut (pointee (Ev .written)))) l₁₁) ∷ ‵ (froom (tyRef erased mut (pointee (Ev .written))) l₁₀ 0) ∷ ‵ (fdies (tyRef erased mut (pointee (Ev .written))) l₁₀) ∷ ‵ (froom (sliceTy (tyRef erased mut (pointee (Ev .written)))) l₉ 0) ∷ ‵ (fdies (sliceTy (tyRef erased mut (pointee (Ev .written)))) l₉) ∷ ‵ (froom (tyRef erased mut (pointee (Ev .written))) l₈ 0) ∷ ‵ (fdies (tyRef erased mut (pointee (Ev .written))) l₈) ∷ ‵ (froom sh-ty l₇ 0) ∷ ‵ (fdies sh-ty l₇) ∷ ‵ (froom (tyRef (named 4) mut (pointee ((Array usize 4) .written))) l₆ 0) ∷ ‵ (fdies (tyRef (named 4) mut (pointee ((Array usize 4) .written))) l₆) ∷ ‵ (froom (sliceTy (tyRef (named 3) mut (pointee (u8 .written)))) l₅ 0) ∷ ‵ (fdies (sliceTy (tyRef (named 3) mut (pointee (u8 .written)))) l₅) ∷ ‵ (froom (sliceTy (tyRef (named 2) mut (pointee (Ev .written)))) l₄ 0) ∷ ‵ (fdies (sliceTy (tyRef (named 2) mut (pointee (Ev .written)))) l₄) ∷ ‵ (froom (sliceTy (tyRef (named 1) mut (pointee (Ev .written)))) l₃ 0) ∷ ‵ (fdies (sliceTy (tyRef (named 1) mut (pointee (Ev .written)))) l₃) ∷ ‵ (froom tyBool l₂ 0) ∷ ‵ (fdies tyBool l₂) ∷ ‵ (froom (sliceTy (tyRef (named 0) imm (pointee (u8 .written)))) l₁ 0) ∷ ‵ (fdies (sliceTy (tyRef (named 0) imm (pointee (u8 .written)))) l₁) ∷ ‵ (fat fullShare (tyInt w8) l₀ 0 ((uint-data w8) .val r)) ∷ ‵ (fdies (tyInt w8) l₀) ∷ []) (runs C Λ En code-mir.t-11 (atRet En Post))
+      leaves : (zs′ : List (Ev .Denot)) (zs″ : List (Ev .Denot)) (zs‴ : List (u8 .Denot)) (zs′-len : length zs′ ≡ length ys) (zs″-len : length zs″ ≡ length rs) (zs‴-len : length zs‴ ≡ length al) (h : (Array usize 4) .Denot) (r : u8 .Denot) (r-ok : Is u8 r (vals (uint-data w8) r)) (said : (r ≡ numberOfSheet (sheetOf text on (length ys) (length rs) (length al))) × ((zs′ ≡ sheetRaw text on (length ys) (length rs) (length al)) × ((zs″ ≡ sheetResults text on (length ys) (length rs) (length al)) × ((zs‴ ≡ sheetAligned text on (length ys) (length rs) (length al)) × (h ≡ countsOfSheet (sheetOf text on (length ys) (length rs) (length al))))))) → Sq W (‵ (Shr u8 κ b o (length text) γ text) ∷ ‵ (flft κ q) ∷ ‵ (Mut Ev κ′ b′ o′ (length ys) γ′ zs′) ∷ ‵ (flft κ′ q′) ∷ ‵ (Mut Ev κ″ b″ o″ (length rs) γ″ zs″) ∷ ‵ (flft κ″ q″) ∷ ‵ (Mut u8 κ‴ b‴ o‴ (length al) γ‴ zs‴) ∷ ‵ (flft κ‴ q‴) ∷ ‵ (MutRef erased κ⁗ (Array usize 4) .own (rf b⁗ o⁗ γ⁗ h) (vptr b⁗ o⁗ ∷ [])) ∷ ‵ (flft κ⁗ q⁗) ∷ ‵ (froom (tyArray (tyInt w64) 4) l₁₄ 0) ∷ ‵ (fdies (tyArray (tyInt w64) 4) l₁₄) ∷ ‵ (froom (sliceTy (tyRef erased mut (pointee (u8 .written)))) l₁₃ 0) ∷ ‵ (fdies (sliceTy (tyRef erased mut (pointee (u8 .written)))) l₁₃) ∷ ‵ (froom (tyRef erased mut (pointee (u8 .written))) l₁₂ 0) ∷ ‵ (fdies (tyRef erased mut (pointee (u8 .written))) l₁₂) ∷ ‵ (froom (sliceTy (tyRef erased mut (pointee (Ev .written)))) l₁₁ 0) ∷ ‵ (fdies (sliceTy (tyRef erased mut (pointee (Ev .written)))) l₁₁) ∷ ‵ (froom (tyRef erased mut (pointee (Ev .written))) l₁₀ 0) ∷ ‵ (fdies (tyRef erased mut (pointee (Ev .written))) l₁₀) ∷ ‵ (froom (sliceTy (tyRef erased mut (pointee (Ev .written)))) l₉ 0) ∷ ‵ (fdies (sliceTy (tyRef erased mut (pointee (Ev .written)))) l₉) ∷ ‵ (froom (tyRef erased mut (pointee (Ev .written))) l₈ 0) ∷ ‵ (fdies (tyRef erased mut (pointee (Ev .written))) l₈) ∷ ‵ (froom sh-ty l₇ 0) ∷ ‵ (fdies sh-ty l₇) ∷ ‵ (froom (tyRef (named 4) mut (pointee ((Array usize 4) .written))) l₆ 0) ∷ ‵ (fdies (tyRef (named 4) mut (pointee ((Array usize 4) .written))) l₆) ∷ ‵ (froom (sliceTy (tyRef (named 3) mut (pointee (u8 .written)))) l₅ 0) ∷ ‵ (fdies (sliceTy (tyRef (named 3) mut (pointee (u8 .written)))) l₅) ∷ ‵ (froom (sliceTy (tyRef (named 2) mut (pointee (Ev .written)))) l₄ 0) ∷ ‵ (fdies (sliceTy (tyRef (named 2) mut (pointee (Ev .written)))) l₄) ∷ ‵ (froom (sliceTy (tyRef (named 1) mut (pointee (Ev .written)))) l₃ 0) ∷ ‵ (fdies (sliceTy (tyRef (named 1) mut (pointee (Ev .written)))) l₃) ∷ ‵ (froom tyBool l₂ 0) ∷ ‵ (fdies tyBool l₂) ∷ ‵ (froom (sliceTy (tyRef (named 0) imm (pointee (u8 .written)))) l₁ 0) ∷ ‵ (fdies (sliceTy (tyRef (named 0) imm (pointee (u8 .written)))) l₁) ∷ ‵ (fat fullShare (tyInt w8) l₀ 0 ((uint-data w8) .val r)) ∷ ‵ (fdies (tyInt w8) l₀) ∷ []) (runs C Λ En code-mir.t-11 (atRet En Post))
       leaves zs′ zs″ zs‴ zs′-len zs″-len zs‴-len h r r-ok said =
           returns ! (look ! 38 refl) $ forget ! 38 refl $ move ! (38 ∷ 39 ∷ []) $ free1 ! $ move ! (36 ∷ 37 ∷ []) $ free1 ! $ move ! (34 ∷ 35 ∷ []) $ free1 ! $ move ! (32 ∷ 33 ∷ []) $ free1 ! $ move ! (30 ∷ 31 ∷ []) $ free1 ! $ move ! (28 ∷ 29 ∷ []) $ free1 ! $ move ! (26 ∷ 27 ∷ []) $ free1 ! $ move ! (24 ∷ 25 ∷ []) $ free1 ! $ move ! (22 ∷ 23 ∷ []) $ free1 ! $ move ! (20 ∷ 21 ∷ []) $ free1 ! $ move ! (18 ∷ 19 ∷ []) $ free1 ! $ move ! (16 ∷ 17 ∷ []) $ free1 ! $ move ! (14 ∷ 15 ∷ []) $ free1 ! $ move ! (12 ∷ 13 ∷ []) $ free1 ! $ move ! (10 ∷ 11 ∷ []) $ free1 ! $ free0 ! $ by ! (exits zs′ zs″ zs‴ zs′-len zs″-len zs‴-len h r r-ok said)
 
