@@ -125,6 +125,11 @@ impl<'a> Walk<'a> {
         Walk { sheet, lines, blanks }
     }
 
+    /// Whether a head is tried at all.
+    pub fn has_text(&self) -> bool {
+        self.blanks.iter().enumerate().any(|(place, &blank)| blank > place)
+    }
+
     /// The raw events of each table: a head is tried at each line that is not blank and not a table's.
     pub fn raw_tables(&self, code_indented: bool) -> Vec<Vec<Event>> {
         let mut tables = vec![];

@@ -40,8 +40,16 @@ pub const WORST: [Shape; 27] = [
     Shape { name: "failed-heads", about: "lines `a|b`: each a head, none with a delimiter row", make: failed_heads },
     Shape { name: "failed-values", about: "`a`, `-` over and over: no colon, no divider", make: failed_values },
     Shape { name: "failed-counts", about: "`a|b`, `-|-|-` over and over: too many values", make: failed_counts },
-    Shape { name: "failed-long", about: "two long lines `a|..`, `-|..`, the second with one wrong byte", make: failed_long },
-    Shape { name: "tables", about: "the smallest tables, a blank line between them", make: |size| fill("a\n:-\n\n", size) },
+    Shape {
+        name: "failed-long",
+        about: "two long lines `a|..`, `-|..`, the second with one wrong byte",
+        make: failed_long,
+    },
+    Shape {
+        name: "tables",
+        about: "the smallest tables, a blank line between them",
+        make: |size| fill("a\n:-\n\n", size),
+    },
     Shape { name: "tables-crlf", about: "the same with CRLF", make: |size| fill("a\r\n:-\r\n\r\n", size) },
     Shape { name: "columns", about: "one table of very many columns and no row", make: columns },
     Shape { name: "wide-rows", about: "one table of very many columns and one row as wide", make: wide_rows },
@@ -50,7 +58,11 @@ pub const WORST: [Shape; 27] = [
     Shape { name: "pipe-row", about: "one table with one row of `|`", make: |size| headed("a\n:-\n", "|", size) },
     Shape { name: "pipe-rows", about: "one table with rows `|`", make: |size| headed("a\n:-\n", "|\n", size) },
     Shape { name: "cell-row", about: "one table with one row of `a|`", make: |size| headed("a\n:-\n", "a|", size) },
-    Shape { name: "spaced-row", about: "one table with one row of ` a |`", make: |size| headed("a\n:-\n", " a |", size) },
+    Shape {
+        name: "spaced-row",
+        about: "one table with one row of ` a |`",
+        make: |size| headed("a\n:-\n", " a |", size),
+    },
     Shape { name: "escapes", about: "one table with one row of `\\|`", make: |size| headed("a\n:-\n", "\\|", size) },
     Shape { name: "random", about: "random bytes of `a`, `|`, `-`, `:`, `\\`, space, line feed, tab", make: random },
 ];

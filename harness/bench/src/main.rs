@@ -54,6 +54,7 @@ fn measured(shape: &'static Shape, size: usize) -> Measured {
         &mut || _ = black_box(spare.read(black_box(&sheet))),
     ]);
     let [reference, ours, spare] = [reference, ours, more].map(|figures| figures.each(sheet.len()));
+    let reference = walk.has_text().then_some(reference);
     Measured { shape, size, raw: counts[1], results: counts[2], reference, ours, spare }
 }
 
@@ -74,14 +75,21 @@ fn repeat(shape: &Shape, size: usize, reps: usize, by_crate: bool) {
     println!("{} {size} bytes {reps} times: {each:.2} nanoseconds a byte", shape.name);
 }
 
+fn ours_least(measured: &Measured) -> Option<f64> {
+    Some(measured.ours.least)
+}
+
+fn crate_least(measured: &Measured) -> Option<f64> {
+    Some(measured.reference?.least)
+}
+
 fn print_all(all: &[Measured], sizes: &[usize]) {
     for &size in sizes.iter().rev().take(1) {
         println!("At {size} bytes, nanoseconds a byte:\n\n{}", report::at_size(all, size));
     }
     if sizes.len() > 1 {
-        let (ours, reference) =
-            (report::by_size(all, |found| found.ours.least), report::by_size(all, |found| found.reference.least));
-        println!("Ours by size, least nanoseconds a byte:\n\n{ours}");
+        println!("Ours by size, least nanoseconds a byte:\n\n{}", report::by_size(all, ours_least));
+        let reference = report::by_size(all, crate_least);
         println!("The crate's reading alone by size, least nanoseconds a byte:\n\n{reference}");
         println!("The shapes:\n\n{}", report::legend(all));
         print!("Summary:\n\n{}", report::summary(all));

@@ -3,9 +3,9 @@
 use std::time::Instant;
 
 /// A run repeats the function until it takes this long, in nanoseconds.
-const RUN: f64 = 2_500_000.0;
+const RUN: f64 = 2_000_000.0;
 /// The number of runs; fewer where one call takes long.
-const RUNS: usize = 11;
+const RUNS: usize = 21;
 const FEW_RUNS: usize = 5;
 const LONG: f64 = 50_000_000.0;
 

@@ -9,8 +9,8 @@ pub struct Measured {
     pub size: usize,
     pub raw: usize,
     pub results: usize,
-    /// The crate's reading alone.
-    pub reference: Figures,
+    /// The crate's reading alone, unless every line is blank, so that it gets nothing to read.
+    pub reference: Option<Figures>,
     /// Our sheet call, with as many slots as needed.
     pub ours: Figures,
     /// Our sheet call, with a quarter more.
@@ -45,6 +45,11 @@ fn number(value: f64) -> String {
     format!("{value:.2}")
 }
 
+/// A number, or a hyphen where there is none.
+fn or_none(value: Option<f64>) -> String {
+    value.map_or("-".to_string(), number)
+}
+
 /// Bars are escaped, as in any table.
 fn escaped(text: &str) -> String {
     text.replace('|', "\\|")
@@ -63,17 +68,21 @@ pub fn at_size(all: &[Measured], size: usize) -> String {
         let Measured { shape, reference, ours, spare, .. } = measured;
         let mut cells = vec![shape.name.to_string()];
         cells.extend([measured.raw, measured.results].map(|count| number(count as f64 / size as f64)));
-        cells.extend([reference.least, reference.median, ours.least, ours.median, spare.least].map(number));
-        cells.push(number(ours.least / reference.least));
-        cells.push(number(ours.median / reference.median));
+        cells.extend([reference.map(|figures| figures.least), reference.map(|figures| figures.median)].map(or_none));
+        cells.extend([ours.least, ours.median, spare.least].map(number));
+        cells.push(or_none(reference.map(|figures| ours.least / figures.least)));
+        cells.push(or_none(reference.map(|figures| ours.median / figures.median)));
         cells.push(number(ours.least / typical.ours.least));
         text += &line(&cells);
     }
     text
 }
 
+/// A figure of what was measured, if there is one.
+pub type Pick = fn(&Measured) -> Option<f64>;
+
 /// The least times of one reader by size, with the growth.
-pub fn by_size(all: &[Measured], pick: fn(&Measured) -> f64) -> String {
+pub fn by_size(all: &[Measured], pick: Pick) -> String {
     let sizes = sizes_of(all);
     let mut names = vec!["shape".to_string()];
     names.extend(sizes.iter().map(|&size| kilobytes(size)));
@@ -81,29 +90,29 @@ pub fn by_size(all: &[Measured], pick: fn(&Measured) -> f64) -> String {
     let mut text = heading(&names, 1);
     for shape in shapes_of(all) {
         let mut cells = vec![shape.name.to_string()];
-        cells.extend(all.iter().filter(|found| found.shape.name == shape.name).map(|found| number(pick(found))));
-        let Growth { ratio, exponent } = growth(all, shape.name, pick);
-        cells.extend([ratio.map_or("-".to_string(), number), number(exponent)]);
+        cells.extend(all.iter().filter(|found| found.shape.name == shape.name).map(|found| or_none(pick(found))));
+        let growth = growth(all, shape.name, pick);
+        cells.extend([or_none(growth.ratio), or_none(growth.exponent)]);
         text += &line(&cells);
     }
     text
 }
 
-/// How the time a byte grows with the size.
+/// How the time grows with the size, where it was measured.
 pub struct Growth {
-    /// At 64 KB against 8 KB, if both were measured.
+    /// The time a byte at 64 KB against 8 KB.
     pub ratio: Option<f64>,
-    pub exponent: f64,
+    pub exponent: Option<f64>,
 }
 
 /// The growth of a shape's times.
-pub fn growth(all: &[Measured], name: &str, pick: fn(&Measured) -> f64) -> Growth {
-    let of_shape: Vec<&Measured> = all.iter().filter(|found| found.shape.name == name).collect();
-    let points: Vec<(usize, f64)> =
-        of_shape.iter().map(|found| (found.size, pick(found) * found.size as f64)).collect();
-    let at = |size: usize| of_shape.iter().find(|found| found.size == size).map(|found| pick(found));
+pub fn growth(all: &[Measured], name: &str, pick: Pick) -> Growth {
+    let of_shape = all.iter().filter(|found| found.shape.name == name);
+    let each: Vec<(usize, f64)> = of_shape.filter_map(|found| Some((found.size, pick(found)?))).collect();
+    let at = |wanted: usize| each.iter().find(|(size, _)| *size == wanted).map(|(_, time)| time);
     let ratio = at(65_536).zip(at(8_192)).map(|(large, small)| large / small);
-    Growth { ratio, exponent: exponent(&points) }
+    let whole: Vec<(usize, f64)> = each.iter().map(|&(size, time)| (size, time * size as f64)).collect();
+    Growth { ratio, exponent: (whole.len() > 1).then(|| exponent(&whole)) }
 }
 
 /// The sizes measured, rising.
@@ -127,10 +136,11 @@ pub fn legend(all: &[Measured]) -> String {
     heading(&strings(&["shape", "what"]), 2) + &lines.collect::<String>()
 }
 
-/// The one with the greatest value.
-fn greatest<'a>(some: &[&'a Measured], value: impl Fn(&Measured) -> f64) -> (&'a str, f64) {
-    let values = some.iter().map(|measured| (measured.shape.name, value(measured)));
-    values.max_by(|one, other| one.1.total_cmp(&other.1)).expect("something was measured")
+/// The shape with the greatest value among those that have one, and that value.
+fn greatest(some: &[&Measured], value: impl Fn(&Measured) -> Option<f64>) -> String {
+    let values = some.iter().filter_map(|measured| Some((measured.shape.name, value(measured)?)));
+    let found = values.max_by(|one, other| one.1.total_cmp(&other.1));
+    found.map_or("-".to_string(), |(name, value)| format!("{name}, {value:.2}"))
 }
 
 /// The figures that matter most, one a line.
@@ -138,24 +148,20 @@ pub fn summary(all: &[Measured]) -> String {
     let largest = *sizes_of(all).last().expect("something was measured");
     let here: Vec<&Measured> = all.iter().filter(|measured| measured.size == largest).collect();
     let typical = here[0];
-    let ours = |measured: &Measured| measured.ours.least;
-    let (slowest, to_typical) = greatest(&here, |measured| ours(measured) / ours(typical));
-    let (dearest, to_crate) = greatest(&here, |measured| ours(measured) / measured.reference.least);
-    let (growing, exponent) = greatest(&here, |measured| growth(all, measured.shape.name, ours).exponent);
-    let (rising, ratio) = greatest(&here, |measured| growth(all, measured.shape.name, ours).ratio.unwrap_or(1.0));
-    format!(
-        "- {} at {}: ours {:.2}, the crate's reading alone {:.2} nanoseconds a byte, ratio {:.2} ({:.2} by medians)\n\
-         - slowest shape against it: {slowest}, ratio {to_typical:.2}\n\
-         - greatest ratio to the crate's reading alone: {dearest}, {to_crate:.2}\n\
-         - growth of {}: exponent {:.3}; greatest exponent: {growing}, {exponent:.3}; greatest 64 KB : 8 KB: {rising}, \
-         {ratio:.2}\n",
-        typical.shape.name,
-        kilobytes(largest),
-        ours(typical),
-        typical.reference.least,
-        ours(typical) / typical.reference.least,
-        typical.ours.median / typical.reference.median,
-        typical.shape.name,
-        growth(all, typical.shape.name, ours).exponent,
-    )
+    let ours: Pick = |measured| Some(measured.ours.least);
+    let to_crate = |measured: &Measured| Some(measured.ours.least / measured.reference?.least);
+    let medians = |measured: &Measured| Some(measured.ours.median / measured.reference?.median);
+    let lines = [
+        format!("{} at {}", typical.shape.name, kilobytes(largest)),
+        format!("ours: {} nanoseconds a byte", number(typical.ours.least)),
+        format!("the crate's reading alone: {}", or_none(typical.reference.map(|figures| figures.least))),
+        format!("ratio: {} by the least times, {} by medians", or_none(to_crate(typical)), or_none(medians(typical))),
+        format!("exponent of its growth: {}", or_none(growth(all, typical.shape.name, ours).exponent)),
+        "all shapes, the greatest".to_string(),
+        format!("ours to typical: {}", greatest(&here, |measured| Some(measured.ours.least / typical.ours.least))),
+        format!("ours to the crate's reading alone: {}", greatest(&here, to_crate)),
+        format!("exponent: {}", greatest(&here, |measured| growth(all, measured.shape.name, ours).exponent)),
+        format!("64 KB to 8 KB, a byte: {}", greatest(&here, |measured| growth(all, measured.shape.name, ours).ratio)),
+    ];
+    lines.iter().map(|line| format!("- {line}\n")).collect()
 }
