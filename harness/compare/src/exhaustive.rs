@@ -5,6 +5,7 @@ use crate::tally::Tally;
 use harness::record::{
     Record, DATA, DELIMITER_ROW, DIVIDER, FILLER, HEAD, LINE_ENDING, MARKER, ROW, SPACE_OR_TAB, TABLE, VALUE,
 };
+use harness::shapes;
 use poolsheet::{Five, HeadFlags};
 
 /// The part of the work that a thread does: those whose number leaves this when divided by the number of threads.
@@ -41,6 +42,18 @@ pub fn sheets(tally: &mut Tally, length: usize, part: Part) {
         asks::sheet(tally, sheet, true, None);
         asks::sheet(tally, sheet, false, None);
     });
+}
+
+/// The shapes at 65,536 bytes and so many more, with exactly enough slots and one raw slot too few: the crate's resolver takes
+/// seconds on some. Also their first line as head and as row.
+pub fn longest_sheets(tally: &mut Tally, over: usize, part: Part) {
+    for (_, shape) in shapes::all().enumerate().filter(|(place, _)| place % part.of == part.mine) {
+        let mut sheet = (shape.make)(65_536);
+        sheet.resize(65_536 + over, b'a');
+        asks::sheet(tally, &sheet, true, Some(0));
+        asks::head(tally, &sheet, 0, HeadFlags { code_indented: true, ..HeadFlags::default() });
+        asks::row(tally, &sheet, 0, false);
+    }
 }
 
 /// Heads and rows at every offset up to one behind the end, with all flags.

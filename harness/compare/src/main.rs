@@ -68,17 +68,18 @@ fn in_threads(name: &str, total: &mut Tally, work: impl Fn(&mut Tally, Part) + S
 /// Every short input of each kind.
 fn compare_exhaustively(total: &mut Tally) {
     type Work = fn(&mut Tally, usize, Part);
-    let kinds: [(&str, usize, Work); 6] = [
-        ("resolve, lists of records", 4, exhaustive::resolve_records),
-        ("resolve, tables of pieces", 7, exhaustive::resolve_tables),
-        ("align, lists of records", 7, exhaustive::align_records),
-        ("edit, edits", 3, exhaustive::edits),
-        ("heads and rows", 6, exhaustive::heads_and_rows),
-        ("sheets", 8, exhaustive::sheets),
+    let kinds: [(&str, usize, Work); 7] = [
+        ("resolve, records,", 4, exhaustive::resolve_records),
+        ("resolve, pieces a row,", 7, exhaustive::resolve_tables),
+        ("align, records,", 7, exhaustive::align_records),
+        ("edit, edits,", 3, exhaustive::edits),
+        ("all shapes, 65,536 bytes and", 1, exhaustive::longest_sheets),
+        ("heads and rows, bytes,", 6, exhaustive::heads_and_rows),
+        ("sheets, bytes,", 8, exhaustive::sheets),
     ];
     for (name, longest, work) in kinds {
         for length in 0..=longest {
-            in_threads(&format!("{name} of {length}"), total, |tally, part| work(tally, length, part));
+            in_threads(&format!("{name} {length}"), total, |tally, part| work(tally, length, part));
         }
     }
 }
