@@ -4,14 +4,13 @@
 //!
 //! With `--reps` a reader only runs so often on one sheet, for a profiler.
 
-use bench::measure::in_turn;
+use bench::measure::{in_turn, thread_time};
 use bench::report::{self, Measured};
 use bench::subjects::{counts_of, crate_reads, Lent};
 use harness::calls::Walk;
 use harness::shapes::{self, Shape};
 use std::hint::black_box;
 use std::process::ExitCode;
-use std::time::Instant;
 
 /// The sizes measured, in bytes.
 const SIZES: [usize; 7] = [1 << 10, 1 << 11, 1 << 12, 1 << 13, 1 << 14, 1 << 15, 1 << 16];
@@ -63,7 +62,7 @@ fn repeat(shape: &Shape, size: usize, reps: usize, by_crate: bool) {
     let sheet = (shape.make)(size);
     let walk = Walk::new(&sheet);
     let mut lent = Lent::exactly(counts_of(&sheet), 0);
-    let start = Instant::now();
+    let start = thread_time();
     for _ in 0..reps {
         if by_crate {
             black_box(crate_reads(&walk));
@@ -71,7 +70,7 @@ fn repeat(shape: &Shape, size: usize, reps: usize, by_crate: bool) {
             black_box(lent.read(black_box(&sheet)));
         }
     }
-    let each = start.elapsed().as_nanos() as f64 / reps as f64 / sheet.len() as f64;
+    let each = (thread_time() - start) / reps as f64 / sheet.len() as f64;
     println!("{} {size} bytes {reps} times: {each:.2} nanoseconds a byte", shape.name);
 }
 

@@ -1,6 +1,30 @@
-//! Times functions, in turn, so that a busy moment of the machine falls on all of them.
+//! Times functions, in turn, so that a busy moment of the machine falls on all of them. What counts is the processor's time for this
+//! thread: while another program has the processor, it stands still.
 
-use std::time::Instant;
+use std::ffi::{c_int, c_long};
+
+/// The C library's time: seconds and nanoseconds.
+#[repr(C)]
+struct Time {
+    seconds: c_long,
+    nanoseconds: c_long,
+}
+
+/// Linux's number for the clock of a thread's processor time.
+const THREAD_CLOCK: c_int = 3;
+
+extern "C" {
+    fn clock_gettime(clock: c_int, time: *mut Time) -> c_int;
+}
+
+/// The processor's time for this thread so far, in nanoseconds.
+pub fn thread_time() -> f64 {
+    let mut time = Time { seconds: 0, nanoseconds: 0 };
+    // SAFETY: the call fills in the time that it is lent.
+    let result = unsafe { clock_gettime(THREAD_CLOCK, &mut time) };
+    assert_eq!(result, 0, "there is a clock for threads");
+    time.seconds as f64 * 1e9 + time.nanoseconds as f64
+}
 
 /// A run repeats the function until it takes this long, in nanoseconds.
 const RUN: f64 = 2_000_000.0;
@@ -25,11 +49,11 @@ impl Figures {
 
 /// Nanoseconds a call, over so many calls.
 fn timed(subject: &mut dyn FnMut(), repeats: usize) -> f64 {
-    let start = Instant::now();
+    let start = thread_time();
     for _ in 0..repeats {
         subject();
     }
-    start.elapsed().as_nanos() as f64 / repeats as f64
+    (thread_time() - start) / repeats as f64
 }
 
 /// How often a function is called in a run, after a call to warm up.
