@@ -1,4 +1,4 @@
-//! Measures our sheet call and the crate's reading alone on sheets of many shapes and sizes, and prints Markdown tables.
+//! Measures our sheet call and the crate's reading alone on sheets of many shapes and sizes; prints Markdown tables.
 //!
 //!     bench [--only SHAPE] [--size BYTES] [--reps N [--reader ours|crate]]
 //!
@@ -6,7 +6,7 @@
 
 use bench::measure::{in_turn, thread_time};
 use bench::report::{self, Measured};
-use bench::subjects::{counts_of, crate_reads, Lent};
+use bench::subjects::{counts_of, crate_does_all, crate_reads, Lent};
 use harness::calls::Walk;
 use harness::shapes::{self, Shape};
 use std::hint::black_box;
@@ -54,7 +54,11 @@ fn measured(shape: &'static Shape, size: usize) -> Measured {
     ]);
     let [reference, ours, spare] = [reference, ours, more].map(|figures| figures.each(sheet.len()));
     let reference = walk.has_text().then_some(reference);
-    Measured { shape, size, raw: counts[1], results: counts[2], reference, ours, spare }
+    let whole = (shape.name == shapes::TYPICAL[0].name).then(|| {
+        let [whole] = in_turn([&mut || _ = black_box(crate_does_all(&walk))]);
+        whole.each(sheet.len())
+    });
+    Measured { shape, size, raw: counts[1], results: counts[2], reference, whole, ours, spare }
 }
 
 /// One reader so often on one sheet.
@@ -82,16 +86,23 @@ fn crate_least(measured: &Measured) -> Option<f64> {
     Some(measured.reference?.least)
 }
 
+fn crate_whole(measured: &Measured) -> Option<f64> {
+    Some(measured.whole?.least)
+}
+
 fn print_all(all: &[Measured], sizes: &[usize]) {
-    for &size in sizes.iter().rev().take(1) {
-        println!("At {size} bytes, nanoseconds a byte:\n\n{}", report::at_size(all, size));
-    }
+    let largest = *sizes.last().expect("a size was measured");
     if sizes.len() > 1 {
-        println!("Ours by size, least nanoseconds a byte:\n\n{}", report::by_size(all, ours_least));
+        println!("### Summary\n\n{}", report::summary(all));
+    }
+    println!("### All shapes at {largest} bytes, nanoseconds a byte\n\n{}", report::at_size(all, largest));
+    if sizes.len() > 1 {
+        println!("### Ours by size, least nanoseconds a byte\n\n{}", report::by_size(all, ours_least));
         let reference = report::by_size(all, crate_least);
-        println!("The crate's reading alone by size, least nanoseconds a byte:\n\n{reference}");
-        println!("The shapes:\n\n{}", report::legend(all));
-        print!("Summary:\n\n{}", report::summary(all));
+        println!("### The crate's reading alone by size, least nanoseconds a byte\n\n{reference}");
+        let whole = report::by_size(all, crate_whole);
+        println!("### The crate's reading, resolving and alignments by size, least nanoseconds a byte\n\n{whole}");
+        print!("### The shapes\n\n{}", report::legend(all));
     }
 }
 

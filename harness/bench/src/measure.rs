@@ -1,5 +1,5 @@
-//! Times functions, in turn, so that a busy moment of the machine falls on all of them. What counts is the processor's time for this
-//! thread: while another program has the processor, it stands still.
+//! Times functions, in turn, so that a busy moment of the machine falls on all of them. What counts is the
+//! processor's time for this thread: while another program has the processor, it stands still.
 
 use std::ffi::{c_int, c_long};
 

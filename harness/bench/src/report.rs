@@ -11,6 +11,8 @@ pub struct Measured {
     pub results: usize,
     /// The crate's reading alone, unless every line is blank, so that it gets nothing to read.
     pub reference: Option<Figures>,
+    /// The crate's reading, resolving and alignments, on the typical shape only.
+    pub whole: Option<Figures>,
     /// Our sheet call, with as many slots as needed.
     pub ours: Figures,
     /// Our sheet call, with a quarter more.
@@ -88,7 +90,8 @@ pub fn by_size(all: &[Measured], pick: Pick) -> String {
     names.extend(sizes.iter().map(|&size| kilobytes(size)));
     names.extend(strings(&["64 KB : 8 KB", "exponent"]));
     let mut text = heading(&names, 1);
-    for shape in shapes_of(all) {
+    let is_measured = |shape: &&Shape| all.iter().any(|found| found.shape.name == shape.name && pick(found).is_some());
+    for shape in shapes_of(all).into_iter().filter(is_measured) {
         let mut cells = vec![shape.name.to_string()];
         cells.extend(all.iter().filter(|found| found.shape.name == shape.name).map(|found| or_none(pick(found))));
         let growth = growth(all, shape.name, pick);
@@ -151,17 +154,16 @@ pub fn summary(all: &[Measured]) -> String {
     let ours: Pick = |measured| Some(measured.ours.least);
     let to_crate = |measured: &Measured| Some(measured.ours.least / measured.reference?.least);
     let medians = |measured: &Measured| Some(measured.ours.median / measured.reference?.median);
+    let name = format!("{}, {}", typical.shape.name, kilobytes(largest));
     let lines = [
-        format!("{} at {}", typical.shape.name, kilobytes(largest)),
-        format!("ours: {} nanoseconds a byte", number(typical.ours.least)),
-        format!("the crate's reading alone: {}", or_none(typical.reference.map(|figures| figures.least))),
-        format!("ratio: {} by the least times, {} by medians", or_none(to_crate(typical)), or_none(medians(typical))),
-        format!("exponent of its growth: {}", or_none(growth(all, typical.shape.name, ours).exponent)),
-        "all shapes, the greatest".to_string(),
-        format!("ours to typical: {}", greatest(&here, |measured| Some(measured.ours.least / typical.ours.least))),
-        format!("ours to the crate's reading alone: {}", greatest(&here, to_crate)),
-        format!("exponent: {}", greatest(&here, |measured| growth(all, measured.shape.name, ours).exponent)),
-        format!("64 KB to 8 KB, a byte: {}", greatest(&here, |measured| growth(all, measured.shape.name, ours).ratio)),
+        format!("{name}, ours: {} nanoseconds a byte", number(typical.ours.least)),
+        format!("{name}, the crate's reading alone: {}", or_none(typical.reference.map(|figures| figures.least))),
+        format!("{name}, ratio: {}, by medians {}", or_none(to_crate(typical)), or_none(medians(typical))),
+        format!("{name}, exponent: {}", or_none(growth(all, typical.shape.name, ours).exponent)),
+        format!("greatest ratio to typical: {}", greatest(&here, |found| Some(found.ours.least / typical.ours.least))),
+        format!("greatest ratio to the crate's reading alone: {}", greatest(&here, to_crate)),
+        format!("greatest exponent: {}", greatest(&here, |found| growth(all, found.shape.name, ours).exponent)),
+        format!("greatest 64 KB : 8 KB: {}", greatest(&here, |found| growth(all, found.shape.name, ours).ratio)),
     ];
     lines.iter().map(|line| format!("- {line}\n")).collect()
 }

@@ -1,6 +1,8 @@
 //! What is measured: our sheet call, and the crate's reading alone.
 
 use harness::calls::Walk;
+use harness::event::Event as CrateEvent;
+use harness::run;
 use poolsheet::{Event, SheetSlots};
 use std::hint::black_box;
 
@@ -54,4 +56,11 @@ pub fn counts_of(sheet: &[u8]) -> [usize; 4] {
 pub fn crate_reads(walk: &Walk) -> usize {
     let tables = black_box(walk).raw_tables(true);
     black_box(&tables).iter().map(Vec::len).sum()
+}
+
+/// The crate's whole work: reading, resolving, alignments. The number of alignments.
+pub fn crate_does_all(walk: &Walk) -> usize {
+    let raw: Vec<CrateEvent> = black_box(walk).raw_tables(true).into_iter().flatten().collect();
+    let results = run::resolve_events(raw);
+    black_box(run::all_alignments(&results)).len()
 }

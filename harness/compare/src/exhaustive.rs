@@ -44,8 +44,8 @@ pub fn sheets(tally: &mut Tally, length: usize, part: Part) {
     });
 }
 
-/// The shapes at 65,536 bytes and so many more, with exactly enough slots and one raw slot too few: the crate's resolver takes
-/// seconds on some. Also their first line as head and as row.
+/// The shapes at 65,536 bytes and so many more, with exactly enough slots and one raw slot too few: the crate's
+/// resolver takes seconds on some. Also their first line as head and as row.
 pub fn longest_sheets(tally: &mut Tally, over: usize, part: Part) {
     for (_, shape) in shapes::all().enumerate().filter(|(place, _)| place % part.of == part.mine) {
         let mut sheet = (shape.make)(65_536);

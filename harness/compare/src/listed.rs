@@ -18,7 +18,7 @@ const CELL: u64 = 8;
 /// The slots lent to our reader, more than any of these needs.
 const SLOTS: usize = 99;
 
-/// A label of the document, how the crate's answer begins, and how ours does. Of a sheet, the cells of each row are told.
+/// A label of the document, how the crate's answer begins, and how ours does. Of a sheet, the cells by row are told.
 type Listed = (&'static str, &'static str, &'static str);
 
 const LISTED: [Listed; 32] = [

@@ -1,4 +1,5 @@
-//! The answers of our reader. Slots and counts are full of junk before each call, and a few slots behind the lent ones must stay so.
+//! The answers of our reader. Slots and counts are full of junk before each call, and a few slots behind the lent ones
+//! must stay so.
 
 use crate::case::{to_ours, Answer, Case};
 use harness::record::Record;

@@ -1,5 +1,5 @@
-//! The six calls of our reader, as the static library libpoolsheet.a gives them, each behind a safe function of the same arguments.
-//! Each gives back 0 or the number of document 01's refusal.
+//! The six calls of our reader, as the static library libpoolsheet.a gives them, each behind a safe function of the
+//! same arguments. Each gives back 0 or the number of document 01's refusal.
 
 use std::mem::size_of;
 
@@ -115,13 +115,7 @@ pub fn resolve(list: &[Event], results: &mut [Event], counts: &mut [usize; 1]) -
 }
 
 /// Edit; the count is that of results.
-pub fn edit(
-    list: &[Event],
-    edits: &mut [Five],
-    pool: &[Event],
-    results: &mut [Event],
-    counts: &mut [usize; 1],
-) -> u8 {
+pub fn edit(list: &[Event], edits: &mut [Five], pool: &[Event], results: &mut [Event], counts: &mut [usize; 1]) -> u8 {
     let numbers = edits.as_flattened_mut();
     let (edit_slots, edit_len) = (numbers.as_mut_ptr(), numbers.len());
     let (slots, slots_len) = (results.as_mut_ptr(), results.len());

@@ -1,10 +1,10 @@
-//! Reads the worst sheets of 65,536 bytes through our six calls, all slots on the heap, and tells how deep the stack gets.
+//! Reads the worst sheets of 65,536 bytes through our six calls, all slots on the heap, and tells the stack they take.
 //!
 //!     stack [--thread KILOBYTES]
 //!
-//! Each shape is first read in the main thread, whose stack `ulimit -s` bounds, then once more in a thread whose stack was filled with a
-//! mark before the call. So are all short patterns over and over, to find a deeper one. With `--thread` the shapes are only read, in a
-//! thread with a stack of that size.
+//! Each shape is first read in the main thread, whose stack `ulimit -s` bounds, then once more in a thread whose stack
+//! was filled with a mark before the call. So are all short patterns over and over, to find a deeper one. With
+//! `--thread` the shapes are only read, in a thread with a stack of that size.
 
 use harness::shapes::{self, Shape};
 use poolsheet::{Event, HeadFlags, SheetSlots};
@@ -127,7 +127,7 @@ fn pattern(number: usize, length: u32) -> Vec<u8> {
     (0..length).map(|place| BYTES[number >> (3 * place) & 7]).collect()
 }
 
-/// The deepest of the sheet, head and row call on any pattern over and over, alone and as a table's body; and that pattern.
+/// The deepest of the sheet, head and row call on any pattern over and over, alone and as a table's body, and which.
 fn deepest_pattern() -> (usize, String) {
     let patterns = (1..=LONGEST).flat_map(|length| (0..8usize.pow(length)).map(move |number| pattern(number, length)));
     let mut deepest = (0, String::new());
@@ -147,11 +147,12 @@ fn text(bytes: &[u8]) -> String {
     String::from_utf8_lossy(bytes).into_owned()
 }
 
-/// Reads a shape by all calls: the sheet call's number and counts.
+/// Reads a shape by all calls: the sheet call's number and counts. The edits fit, whatever the sheet.
 fn read(shape: &Shape) -> (u8, [usize; 4]) {
     let mut lent = Lent::new((shape.make)(SIZE));
-    let numbers = CALLS.map(|(_, call)| call(&mut lent));
-    (numbers[0], lent.counts)
+    let [sheet, _, _, _, edit, _] = CALLS.map(|(_, call)| call(&mut lent));
+    assert_eq!(edit, 0, "the edits are accepted");
+    (sheet, lent.counts)
 }
 
 fn main() -> ExitCode {
