@@ -107,23 +107,47 @@ pub fn sheet(sheet: &[u8], code_indented: bool, slots: &SheetSlots) -> Result<Sh
 
 /// The walk of 01: the raw events of each table, in sheet order.
 pub fn raw_tables(sheet: &[u8], code_indented: bool) -> Vec<Vec<Event>> {
-    let all = lines(sheet);
-    let blanks = next_blanks(sheet, &all);
-    let mut tables = vec![];
-    let mut place = 0;
-    while place < all.len() {
-        // The rows of a table whose head is here: the lines behind the delimiter row up to a blank one.
-        let rows = blanks.get(place + 2).map_or(0, |blank| blank - (place + 2));
-        let tried =
-            (blanks[place] > place).then(|| drive::table(sheet, &all[place..], code_indented, Flags::default(), rows));
-        if let Some(Ok(driven)) = tried {
-            tables.push(driven.events);
-            place += 2 + rows;
-        } else {
-            place += 1;
-        }
+    Walk::new(sheet).raw_tables(code_indented)
+}
+
+/// A sheet cut into lines for the walk.
+pub struct Walk<'a> {
+    sheet: &'a [u8],
+    lines: Vec<Line>,
+    /// For each line, the place of the first blank line from there on, or the number of lines.
+    blanks: Vec<usize>,
+}
+
+impl<'a> Walk<'a> {
+    pub fn new(sheet: &'a [u8]) -> Walk<'a> {
+        let lines = lines(sheet);
+        let blanks = next_blanks(sheet, &lines);
+        Walk { sheet, lines, blanks }
     }
-    tables
+
+    /// Whether a head is tried at all.
+    pub fn has_text(&self) -> bool {
+        self.blanks.iter().enumerate().any(|(place, &blank)| blank > place)
+    }
+
+    /// The raw events of each table: a head is tried at each line that is not blank and not a table's.
+    pub fn raw_tables(&self, code_indented: bool) -> Vec<Vec<Event>> {
+        let mut tables = vec![];
+        let mut place = 0;
+        while place < self.lines.len() {
+            // The rows of a table whose head is here: the lines behind the delimiter row up to a blank one.
+            let rows = self.blanks.get(place + 2).map_or(0, |blank| blank - (place + 2));
+            let try_head =
+                || drive::table(self.sheet, &self.lines[place..], code_indented, Flags::default(), rows).ok();
+            if let Some(driven) = (self.blanks[place] > place).then(try_head).flatten() {
+                tables.push(driven.events);
+                place += 2 + rows;
+            } else {
+                place += 1;
+            }
+        }
+        tables
+    }
 }
 
 /// For each line, the place of the first blank line from there on, or the number of lines.

@@ -42,7 +42,7 @@ fn finish(tokenizer: &mut Tokenizer, state: State) {
 
 /// The outcome of the first try, as cells or a number.
 fn first_outcome() -> Result<usize, u8> {
-    match watch::outcomes()[0] {
+    match watch::first_outcome().expect("a line was tried") {
         Outcome::Accepted(cells) => Ok(cells),
         Outcome::Refused(number) => Err(number),
     }
@@ -63,11 +63,12 @@ pub fn table(sheet: &[u8], lines: &[Line], code_indented: bool, flags: Flags, ro
     let mut state = push_line(&mut tokenizer, lines[0], State::Next(Name::FlowStart));
     tokenizer.lazy = flags.lazy;
     tokenizer.pierce = flags.pierced;
-    if let Some(delimiter) = lines.get(1) {
+    // Ok so early is a refusal, with the feature `quiet`.
+    if let Some(delimiter) = lines.get(1).filter(|_| state != State::Ok) {
         watch::set_row_follows(rows > 0);
         state = push_line(&mut tokenizer, *delimiter, state);
     }
-    if rows > 0 && matches!(watch::outcomes()[..], [Outcome::Accepted(_)]) {
+    if rows > 0 && matches!(watch::first_outcome(), Some(Outcome::Accepted(_))) {
         for place in 0..rows {
             watch::set_row_follows(place + 1 < rows);
             state = push_line(&mut tokenizer, lines[2 + place], state);
@@ -76,7 +77,7 @@ pub fn table(sheet: &[u8], lines: &[Line], code_indented: bool, flags: Flags, ro
     finish(&mut tokenizer, state);
 
     let cells = first_outcome()?;
-    assert_eq!(watch::outcomes().len(), 1 + rows, "each row is accepted");
+    assert_eq!(watch::outcome_count(), 1 + rows, "each row is accepted");
     Ok(Driven { events: tokenizer.events, cells })
 }
 

@@ -34,6 +34,9 @@ pub fn after(tokenizer: &mut Tokenizer) -> State {
 /// After a refusal, back at the line's start: nothing further is tried, or another head at the next line.
 pub fn refused(tokenizer: &mut Tokenizer) -> State {
     watch::refused();
+    if cfg!(feature = "quiet") {
+        return State::Ok;
+    }
     pass_line(tokenizer)
 }
 

@@ -38,6 +38,7 @@ pub mod questions;
 pub mod read;
 pub mod record;
 pub mod run;
+pub mod shapes;
 pub mod watch;
 
 #[cfg(test)]

@@ -42,12 +42,16 @@ thread_local! {
 /// Forgets everything; a new tokenizer begins.
 pub fn begin() {
     WATCH.with_borrow_mut(|watch| {
-        *watch = Watch { last: None, before_last: None, outcomes: Vec::new(), row_follows: false, try_again: false };
+        (watch.last, watch.before_last, watch.row_follows, watch.try_again) = (None, None, false, false);
+        watch.outcomes.clear();
     });
 }
 
 /// Notes a call of a table state.
 pub fn note(tokenizer: &Tokenizer, name: Name) {
+    if cfg!(feature = "quiet") {
+        return;
+    }
     let state = &tokenizer.tokenize_state;
     let called = Called {
         name,
@@ -77,6 +81,9 @@ pub fn refused() {
 
 /// 01's number for the refusal by the state called last.
 fn number(watch: &Watch) -> u8 {
+    if cfg!(feature = "quiet") {
+        return 0;
+    }
     match watch.last.expect("a table state was called").name {
         Name::GfmTableHeadRowStart => 3,
         Name::GfmTableHeadRowBreak => 4,
@@ -96,6 +103,16 @@ fn counts_differ(called: Option<Called>) -> bool {
             && called.size_b >= 1
             && called.size != called.size_b
     })
+}
+
+/// The first outcome, if there is one.
+pub fn first_outcome() -> Option<Outcome> {
+    WATCH.with_borrow(|watch| watch.outcomes.first().copied())
+}
+
+/// How many outcomes there are so far.
+pub fn outcome_count() -> usize {
+    WATCH.with_borrow(|watch| watch.outcomes.len())
 }
 
 /// The outcomes so far, in order.

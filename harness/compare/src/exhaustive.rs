@@ -1,0 +1,160 @@
+//! Every input up to a length over a small alphabet. Two threads share them: each takes every second one.
+
+use crate::asks;
+use crate::tally::Tally;
+use harness::record::{
+    Record, DATA, DELIMITER_ROW, DIVIDER, FILLER, HEAD, LINE_ENDING, MARKER, ROW, SPACE_OR_TAB, TABLE, VALUE,
+};
+use harness::shapes;
+use poolsheet::{Five, HeadFlags};
+
+/// The part of the work that a thread does: those whose number leaves this when divided by the number of threads.
+#[derive(Clone, Copy)]
+pub struct Part {
+    pub mine: usize,
+    pub of: usize,
+}
+
+/// The bytes of the sheets.
+const BYTES: &[u8; 7] = b"a|-:\\ \n";
+
+/// The word with this number among those of a length.
+fn word<T: Copy>(alphabet: &[T], mut number: usize, length: usize) -> Vec<T> {
+    let mut word = Vec::with_capacity(length);
+    for _ in 0..length {
+        word.push(alphabet[number % alphabet.len()]);
+        number /= alphabet.len();
+    }
+    word
+}
+
+/// Each word of a length in this part.
+fn each_word<T: Copy>(alphabet: &[T], length: usize, part: Part, mut take: impl FnMut(&[T])) {
+    let count = alphabet.len().pow(length as u32);
+    for number in (part.mine..count).step_by(part.of) {
+        take(&word(alphabet, number, length));
+    }
+}
+
+/// Sheets of a length, with both options.
+pub fn sheets(tally: &mut Tally, length: usize, part: Part) {
+    each_word(BYTES, length, part, |sheet| {
+        asks::sheet(tally, sheet, true, None);
+        asks::sheet(tally, sheet, false, None);
+    });
+}
+
+/// The shapes at 65,536 bytes and so many more, with exactly enough slots and one raw slot too few: the crate's
+/// resolver takes seconds on some. Also their first line as head and as row.
+pub fn longest_sheets(tally: &mut Tally, over: usize, part: Part) {
+    for (_, shape) in shapes::all().enumerate().filter(|(place, _)| place % part.of == part.mine) {
+        let mut sheet = (shape.make)(65_536);
+        sheet.resize(65_536 + over, b'a');
+        asks::sheet(tally, &sheet, true, Some(0));
+        asks::head(tally, &sheet, 0, HeadFlags { code_indented: true, ..HeadFlags::default() });
+        asks::row(tally, &sheet, 0, false);
+    }
+}
+
+/// Heads and rows at every offset up to one behind the end, with all flags.
+pub fn heads_and_rows(tally: &mut Tally, length: usize, part: Part) {
+    each_word(BYTES, length, part, |sheet| {
+        for offset in 0..=length + 1 {
+            for bits in 0..8 {
+                let [code_indented, lazy, pierced] = [0, 1, 2].map(|bit| bits >> bit & 1 == 1);
+                asks::head(tally, sheet, offset, HeadFlags { code_indented, lazy, pierced });
+            }
+            asks::row(tally, sheet, offset, false);
+            asks::row(tally, sheet, offset, true);
+        }
+    });
+}
+
+fn pair(name: u64) -> [Record; 2] {
+    [Record::enter(name), Record::exit(name)]
+}
+
+fn row(name: u64, pieces: &[u64]) -> Vec<Record> {
+    let inner = pieces.iter().flat_map(|&piece| pair(piece));
+    [Record::enter(name)].into_iter().chain(inner).chain([Record::exit(name)]).collect()
+}
+
+/// A raw table of these pieces, each record at a point that tells its place.
+fn table(head: &[u64], delimiter: &[u64], body: &[&[u64]]) -> Vec<Record> {
+    let mut list = vec![Record::enter(HEAD)];
+    list.extend(row(ROW, head));
+    list.extend(pair(LINE_ENDING));
+    list.extend(row(DELIMITER_ROW, delimiter));
+    list.push(Record::exit(HEAD));
+    for pieces in body {
+        list.extend(pair(LINE_ENDING));
+        list.extend(row(ROW, pieces));
+    }
+    list.iter().zip(1..).map(|(record, place)| record.at(place, place + 100, place + 200)).collect()
+}
+
+const TEXT_PIECES: [u64; 3] = [SPACE_OR_TAB, DIVIDER, DATA];
+const VALUE_PIECES: [u64; 4] = [SPACE_OR_TAB, DIVIDER, MARKER, FILLER];
+const ANY_PIECES: [u64; 6] = [SPACE_OR_TAB, DIVIDER, DATA, MARKER, FILLER, LINE_ENDING];
+
+/// Raw tables whose head, delimiter or body row has so many pieces in any order; also two body rows of fewer.
+pub fn resolve_tables(tally: &mut Tally, length: usize, part: Part) {
+    each_word(&TEXT_PIECES, length, part, |pieces| {
+        asks::resolve(tally, &table(pieces, &[FILLER], &[]));
+        asks::resolve(tally, &table(&[DATA], &[FILLER], &[pieces]));
+        let (one, other) = pieces.split_at(length / 2);
+        asks::resolve(tally, &table(&[DIVIDER], &[MARKER], &[one, other]));
+    });
+    each_word(&VALUE_PIECES, length, part, |pieces| {
+        asks::resolve(tally, &table(&[DIVIDER], pieces, &[&[DATA]]));
+    });
+    each_word(&ANY_PIECES, length.min(4), part, |pieces| {
+        asks::resolve(tally, &table(pieces, &[FILLER], &[]));
+        asks::resolve(tally, &table(&[DATA], pieces, &[]));
+        asks::resolve(tally, &table(&[DATA], &[FILLER], &[pieces]));
+    });
+}
+
+/// Lists of so many records, entered and left, of the names of raw tables.
+pub fn resolve_records(tally: &mut Tally, length: usize, part: Part) {
+    let names = [SPACE_OR_TAB, LINE_ENDING, DATA, HEAD, ROW, DIVIDER, DELIMITER_ROW, MARKER, FILLER];
+    let records: Vec<Record> = names.iter().flat_map(|&name| pair(name)).collect();
+    each_word(&records, length, part, |list| asks::resolve(tally, list));
+}
+
+/// Lists of so many records that alignment reads, at index 0, for short ones at each index.
+pub fn align_records(tally: &mut Tally, length: usize, part: Part) {
+    let blank_value = Record { name: VALUE, ..Record::default() };
+    let mut records = vec![blank_value, Record::enter(DATA), Record::exit(MARKER)];
+    records.extend([Record::enter(TABLE), Record::enter(MARKER)]);
+    records.extend(pair(DELIMITER_ROW));
+    records.extend(pair(VALUE));
+    each_word(&records, length, part, |list| {
+        asks::align(tally, list, 0);
+        for index in (1..=length + 1).filter(|_| length < 5) {
+            asks::align(tally, list, index);
+        }
+    });
+}
+
+/// Records that tell their place.
+fn counted(count: u64, kind: u64) -> Vec<Record> {
+    (0..count).map(|place| Record { kind, name: 1 + place, index: place, ..Record::default() }).collect()
+}
+
+/// So many edits on lists of up to three records with a pool of two.
+pub fn edits(tally: &mut Tally, length: usize, part: Part) {
+    let mut alphabet: Vec<Five> = vec![];
+    for position in 0..5 {
+        for removed in 0..4 {
+            for [start, count] in [[0, 0], [0, 1], [1, 1]] {
+                alphabet.extend([0, 1].map(|before| [position, removed, start, count, before]));
+            }
+        }
+    }
+    let pool = counted(2, 2);
+    let lists = if length < 3 { 0..=3 } else { 2..=2 };
+    for list in lists.map(|count| counted(count, 1)) {
+        each_word(&alphabet, length, part, |edits| asks::edit(tally, &list, edits, &pool));
+    }
+}

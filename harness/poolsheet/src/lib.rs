@@ -1,0 +1,153 @@
+//! The six calls of our reader, as the static library libpoolsheet.a gives them, each behind a safe function of the
+//! same arguments. Each gives back 0 or the number of document 01's refusal.
+
+use std::mem::size_of;
+
+/// An event record as it lies in the slots.
+#[repr(C)]
+#[derive(Clone, Copy, Debug, Default, Eq, PartialEq)]
+pub struct Event {
+    pub kind: u8,
+    pub name: u8,
+    pub line: u32,
+    pub column: u32,
+    pub index: u32,
+    pub vs: u8,
+    pub link: u8,
+}
+
+const _: () = assert!(size_of::<Event>() == 20);
+
+/// An edit: position, removed, pool start, pool count, before (0 is no).
+pub type Five = [usize; 5];
+
+/// The flags of a head call.
+#[derive(Clone, Copy, Debug, Default)]
+pub struct HeadFlags {
+    pub code_indented: bool,
+    pub lazy: bool,
+    pub pierced: bool,
+}
+
+mod c {
+    use super::Event;
+
+    extern "C" {
+        pub fn poolsheet_head(
+            sheet: *const u8,
+            sheet_len: usize,
+            offset: usize,
+            code_indented: bool,
+            lazy: bool,
+            pierced: bool,
+            raw: *mut Event,
+            raw_len: usize,
+            counts: *mut [usize; 3],
+        ) -> u8;
+        pub fn poolsheet_row(
+            sheet: *const u8,
+            sheet_len: usize,
+            offset: usize,
+            lazy: bool,
+            raw: *mut Event,
+            raw_len: usize,
+            counts: *mut [usize; 2],
+        ) -> u8;
+        pub fn poolsheet_resolve(
+            list: *const Event,
+            list_len: usize,
+            results: *mut Event,
+            results_len: usize,
+            counts: *mut [usize; 1],
+        ) -> u8;
+        pub fn poolsheet_edit(
+            list: *const Event,
+            list_len: usize,
+            edits: *mut usize,
+            edits_len: usize,
+            pool: *const Event,
+            pool_len: usize,
+            results: *mut Event,
+            results_len: usize,
+            counts: *mut [usize; 1],
+        ) -> u8;
+        pub fn poolsheet_align(
+            list: *const Event,
+            list_len: usize,
+            index: usize,
+            alignments: *mut u8,
+            alignments_len: usize,
+            counts: *mut [usize; 1],
+        ) -> u8;
+        pub fn poolsheet_sheet(
+            sheet: *const u8,
+            sheet_len: usize,
+            code_indented: bool,
+            raw: *mut Event,
+            raw_len: usize,
+            results: *mut Event,
+            results_len: usize,
+            alignments: *mut u8,
+            alignments_len: usize,
+            counts: *mut [usize; 4],
+        ) -> u8;
+    }
+}
+
+/// Head; counts are events, end, cells.
+pub fn head(sheet: &[u8], offset: usize, flags: HeadFlags, raw: &mut [Event], counts: &mut [usize; 3]) -> u8 {
+    let HeadFlags { code_indented, lazy, pierced } = flags;
+    let (from, slots) = (sheet.as_ptr(), raw.as_mut_ptr());
+    // SAFETY: each pointer comes with the length of its slice, and nothing is kept after the call.
+    unsafe { c::poolsheet_head(from, sheet.len(), offset, code_indented, lazy, pierced, slots, raw.len(), counts) }
+}
+
+/// Row; counts are events, end.
+pub fn row(sheet: &[u8], offset: usize, lazy: bool, raw: &mut [Event], counts: &mut [usize; 2]) -> u8 {
+    // SAFETY: as in `head`.
+    unsafe { c::poolsheet_row(sheet.as_ptr(), sheet.len(), offset, lazy, raw.as_mut_ptr(), raw.len(), counts) }
+}
+
+/// Resolve; the count is that of results.
+pub fn resolve(list: &[Event], results: &mut [Event], counts: &mut [usize; 1]) -> u8 {
+    // SAFETY: as in `head`.
+    unsafe { c::poolsheet_resolve(list.as_ptr(), list.len(), results.as_mut_ptr(), results.len(), counts) }
+}
+
+/// Edit; the count is that of results.
+pub fn edit(list: &[Event], edits: &mut [Five], pool: &[Event], results: &mut [Event], counts: &mut [usize; 1]) -> u8 {
+    let numbers = edits.as_flattened_mut();
+    let (edit_slots, edit_len) = (numbers.as_mut_ptr(), numbers.len());
+    let (slots, slots_len) = (results.as_mut_ptr(), results.len());
+    let (in_list, in_pool) = (list.as_ptr(), pool.as_ptr());
+    // SAFETY: as in `head`.
+    unsafe {
+        c::poolsheet_edit(in_list, list.len(), edit_slots, edit_len, in_pool, pool.len(), slots, slots_len, counts)
+    }
+}
+
+/// Alignment; the count is that of alignments.
+pub fn align(list: &[Event], index: usize, alignments: &mut [u8], counts: &mut [usize; 1]) -> u8 {
+    let (slots, slots_len) = (alignments.as_mut_ptr(), alignments.len());
+    // SAFETY: as in `head`.
+    unsafe { c::poolsheet_align(list.as_ptr(), list.len(), index, slots, slots_len, counts) }
+}
+
+/// The slots lent to the sheet call.
+pub struct SheetSlots<'a> {
+    pub raw: &'a mut [Event],
+    pub results: &'a mut [Event],
+    pub alignments: &'a mut [u8],
+}
+
+/// Sheet; counts are tables, raw events, results, alignments.
+pub fn sheet(sheet: &[u8], code_indented: bool, slots: &mut SheetSlots, counts: &mut [usize; 4]) -> u8 {
+    let (raw, raw_len) = (slots.raw.as_mut_ptr(), slots.raw.len());
+    let (results, results_len) = (slots.results.as_mut_ptr(), slots.results.len());
+    let (aligns, aligns_len) = (slots.alignments.as_mut_ptr(), slots.alignments.len());
+    let (from, len) = (sheet.as_ptr(), sheet.len());
+    // SAFETY: as in `head`.
+    unsafe {
+        c::poolsheet_sheet(from, len, code_indented, raw, raw_len, results, results_len, aligns, aligns_len, counts)
+    }
+}
