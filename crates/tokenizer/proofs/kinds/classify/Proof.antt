@@ -37,15 +37,16 @@ returns-7 c =
     let m = c .match .rest in
     let n = m .0 .0 .0 .0 .1 in
     let k = m .0 .0 .0 .0 .0 .1 in
-    rw
-    ( ne-eqb b 9 (λ e. k (inl e))
-    , ne-eqb b 32 (λ e. k (inr e))
-    , ne-eqb b 10 (λ e. n (inl e))
-    , ne-eqb b 13 (λ e. n (inr e))
-    , ne-eqb b 124 (m .0 .0 .0 .1)
-    , ne-eqb b 92 (m .0 .0 .1)
-    , ne-eqb b 45 (m .0 .1)
-    , ne-eqb b 58 (m .1))
+    rw (
+      ne-eqb b 9 (λ e. k (inl e)),
+      ne-eqb b 32 (λ e. k (inr e)),
+      ne-eqb b 10 (λ e. n (inl e)),
+      ne-eqb b 13 (λ e. n (inr e)),
+      ne-eqb b 124 (m .0 .0 .0 .1),
+      ne-eqb b 92 (m .0 .0 .1),
+      ne-eqb b 45 (m .0 .1),
+      ne-eqb b 58 (m .1),
+    )
 
 pub classify-spec : {M : Type 1} → statement M
 classify-spec = tie.close (tie.spec returns returns-2 returns-3 returns-4 returns-5 returns-6 returns-7)
