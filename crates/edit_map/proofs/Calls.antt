@@ -11,7 +11,7 @@ use native.Mathlib.Nat.{sub-zero}
 use native.Mathlib.Omega.{arith}
 use borrow.Author.Tests.{leb-true}
 use Rattle.tokenizer.specs.declared.event.Event.{Event}
-use Rattle.tokenizer.specs.Slots.{slotsOf, clearedFrom}
+use Rattle.tokenizer.specs.Slots.{eventAt, slotsOf, clearedFrom}
 use Rattle.tokenizer.proofs.Blanks.{slots-length, cleared-none, cleared-slots}
 use Rattle.edit_map.specs.declared.resolve_accept.Place.the-variants.{Start}
 use Rattle.edit_map.specs.declared.resolve_accept.Reading.{Reading}
@@ -29,13 +29,13 @@ use Rattle.edit_map.specs.Accept.{at, readAll, accepted, accepts}
 use Rattle.edit_map.specs.TablesOf.{resolvedList}
 use Rattle.edit_map.specs.Turns.{plain}
 use Rattle.edit_map.specs.declared.resolve_turn.Phase.the-variants.{Out}
-use Rattle.edit_map.specs.Cursors.{cursorAt, stepAt, stepped, cursorAfter}
+use Rattle.edit_map.specs.Cursors.{moreOf, cursorAt, stepAt, stepped, cursorAfter}
 use Rattle.edit_map.specs.Align.{alignmentsAt, tableAlignments}
 use Rattle.edit_map.specs.AlignSteps.{startAt, isFound, scanOf, alignsFrom}
 use Rattle.edit_map.specs.Answers.{resolveAnswer, resolveSlots, alignedOf, alignAnswer, alignedSlots, alignSlots}
 use Rattle.edit_map.specs.Verdicts.{streamOf, judgeOf, againOf, toldOf}
 use Rattle.edit_map.proofs.Streams.{stays}
-use Rattle.edit_map.proofs.Steps.{drop-past, Stands, steps, finished, Resolves}
+use Rattle.edit_map.proofs.Steps.{drop-past, gave-is, Stands, steps, finished, Resolves}
 use Rattle.edit_map.proofs.Resolving.{resolve-stream}
 use Rattle.edit_map.proofs.Aligns.{alignGiven, answer, aligns, counted, zeroed, fills}
 
@@ -58,9 +58,9 @@ module _ (es : List Event) (n : ℕ) (fits : length es ≤ most) (small : n ≤ 
   abbrev out : List Event
   out = resolvedList es
 
-  pub resolve-answer : judgeOf reading (cursorAfter es n (streamOf reading) .given) (stepAt es (cursorAfter es n (streamOf reading)) .gave) n .answer ≡ resolveAnswer es n
+  answered : judgeOf reading (cursorAfter es n (streamOf reading) .given) (stepAt es (cursorAfter es n (streamOf reading)) .gave) n .answer ≡ resolveAnswer es n
   unfolding judgeOf streamOf resolveAnswer
-  resolve-answer = go (accepts es) refl
+  answered = go (accepts es) refl
     where
       fit : (b : Bool) → leb (length out) n ≡ b → Resolves es out n → cond b (resolved.Accepted (after true .given)) (resolved.Refused 12) ≡ cond b (resolved.Accepted (length out)) (resolved.Refused 12)
       fit true e r = ap resolved.Accepted (r .count (leb-true (length out) n e))
@@ -83,9 +83,9 @@ module _ (es : List Event) (n : ℕ) (fits : length es ≤ most) (small : n ≤ 
   all-kept : (xs : List Event) → clearedFrom n (slotsOf n xs) ≡ slotsOf n xs
   all-kept xs = cleared-none n (slotsOf n xs) (omega (arith, slots-length n xs))
 
-  pub resolve-slots : clearedFrom (judgeOf reading (cursorAfter es n (streamOf reading) .given) (stepAt es (cursorAfter es n (streamOf reading)) .gave) n .keep) (stepped es n (streamOf reading)) ≡ resolveSlots es n
+  slotted : clearedFrom (judgeOf reading (cursorAfter es n (streamOf reading) .given) (stepAt es (cursorAfter es n (streamOf reading)) .gave) n .keep) (stepped es n (streamOf reading)) ≡ resolveSlots es n
   unfolding judgeOf streamOf resolveSlots
-  resolve-slots = go (accepts es) refl
+  slotted = go (accepts es) refl
     where
       fit : (b : Bool) → clearedFrom (verdict b (after true .given) .keep) (slotsOf n out) ≡ slotsOf n (cond b out [])
       fit true = all-kept out
@@ -96,6 +96,19 @@ module _ (es : List Event) (n : ℕ) (fits : length es ≤ most) (small : n ≤ 
           let r = resolve-stream es e fits n small in
           ap (λ (l : List Event). clearedFrom (judged true .keep) l) (r .records) ∙ fit (finished es (after true)) ∙ ap (λ (b : Bool). slotsOf n (cond b out [])) (r .done)
       go false e = ap (clearedFrom n) (nothing most fits) ∙ all-kept []
+
+  -- the same, told by the record that the stream has at hand after n steps
+  abbrev last : Cursor
+  last = cursorAfter es n (streamOf reading)
+
+  abbrev more : ℕ
+  more = moreOf last (eventAt es (last .at))
+
+  pub resolve-answer : judgeOf reading (last .given) more n .answer ≡ resolveAnswer es n
+  resolve-answer = ap (λ (k : ℕ). judgeOf reading (last .given) k n .answer) (sym (gave-is es last)) ∙ answered
+
+  pub resolve-slots : clearedFrom (judgeOf reading (last .given) more n .keep) (stepped es n (streamOf reading)) ≡ resolveSlots es n
+  resolve-slots = ap (λ (k : ℕ). clearedFrom (judgeOf reading (last .given) k n .keep) (stepped es n (streamOf reading))) (sym (gave-is es last)) ∙ slotted
 
 -- ## Align
 

@@ -14,15 +14,16 @@ use Rattle.tokenizer.specs.Slots.{eventAt, slotsOf}
 use Rattle.tokenizer.specs.Events.{GfmTableCellDivider, SpaceOrTab}
 use Rattle.edit_map.specs.declared.resolve_turn.Phase.{Phase}
 use Rattle.edit_map.specs.declared.resolve_turn.Phase.the-variants.{Out, Head, Row, Cell, Piece, Exit, Text, Copy, Leave, RowExit, HeadExit, End, EndExit, Open, BodyLeave, TableLeave}
-use Rattle.edit_map.specs.declared.resolve_base.Part.the-variants.{Header}
+use Rattle.edit_map.specs.declared.resolve_base.Part.{Part}
+use Rattle.edit_map.specs.declared.resolve_base.Part.the-variants.{Header, Delimiter, Body}
 use Rattle.edit_map.specs.declared.resolve_turn.Mode.{Mode}
 use Rattle.edit_map.specs.declared.resolve_turn.Turn.{Turn}
 use Rattle.edit_map.specs.declared.resolve_look.Look.{Look}
 use Rattle.edit_map.specs.declared.resolve_step.Cursor.{Cursor}
-use Rattle.edit_map.specs.Base.{most, plusOf, isTextName}
-use Rattle.edit_map.specs.Turns.{plain, pieceTurn, turnIn, turnOf}
+use Rattle.edit_map.specs.Base.{most, plusOf, isRowName, isTextName}
+use Rattle.edit_map.specs.Turns.{isOut, goesOn, plain, pieceTurn, rowExitTurn, endExitTurn, turnIn, turnOf}
 use Rattle.edit_map.proofs.Stream.{first, rest, onward, aheadOf, solidOf, turnAt, stream}
-use Rattle.edit_map.specs.Cursors.{moves, lookStart, lookStep, lookAll, isPiece, asks, resolveStep, lookOf, stepAt, stepped, cursorAt, cursorAfter}
+use Rattle.edit_map.specs.Cursors.{moreOf, moves, lookStart, lookStep, lookAll, isPiece, asks, resolveStep, lookOf, stepAt, stepped, cursorAt, cursorAfter}
 use Rattle.edit_map.proofs.Gives.{Gives, none, more}
 use Rattle.edit_map.specs.Tables.{Table, rawTables, resolvedTables}
 use Rattle.edit_map.specs.Raw.{AreTables}
@@ -40,6 +41,55 @@ turnHere es c = turnOf (c .mode) (eventAt es (c .at)) (eventAt es (plusOf (c .at
 -- no record is left to give
 abbrev pub finished : List Event → Cursor → Bool
 finished es c = eqb (stepAt es c .gave) 0
+
+-- ## Every turn gives one record, but where no table follows
+
+one-of : (b : Bool) (t u : Turn) → t .gave ≡ 1 → u .gave ≡ 1 → cond b t u .gave ≡ 1
+one-of true t u p q = p
+one-of false t u p q = q
+
+none-or-one : (b : Bool) (t u : Turn) → t .gave ≡ 0 → u .gave ≡ 1 → cond b t u .gave ≡ cond b 0 1
+none-or-one true t u p q = p
+none-or-one false t u p q = q
+
+row-one : (p : Part) (this next : Event) → rowExitTurn p this next .gave ≡ 1
+row-one Header this next = refl
+row-one Delimiter this next = refl
+row-one Body this next = one-of (goesOn next) _ _ refl refl
+
+end-one : (p : Part) (this : Event) → endExitTurn p this .gave ≡ 1
+end-one Header this = refl
+end-one Delimiter this = refl
+end-one Body this = refl
+
+piece-one : (m : Mode) (this : Event) (a : ℕ) (s : Bool) → pieceTurn m this a s .gave ≡ 1
+unfolding pieceTurn
+piece-one m this a s =
+    one-of (isRowName (this .name)) _ _ refl
+    (one-of (m .seen && (eqb (this .name) GfmTableCellDivider && s)) _ _ refl
+    (one-of (m .waits && isTextName (this .name)) _ _ refl refl))
+
+gave-in : (h : Phase) (m : Mode) (this next : Event) (a : ℕ) (s : Bool) → turnIn h m this next a s .gave ≡ cond (isOut h && eqb (this .kind) 0) 0 1
+gave-in Out m this next a s = none-or-one (eqb (this .kind) 0) _ _ refl refl
+gave-in Head m this next a s = refl
+gave-in Row m this next a s = refl
+gave-in Cell m this next a s = refl
+gave-in Piece m this next a s = piece-one m this a s
+gave-in Exit m this next a s = refl
+gave-in Text m this next a s = refl
+gave-in Copy m this next a s = one-of (eqb (m .left) 0) _ _ refl refl
+gave-in Leave m this next a s = refl
+gave-in RowExit m this next a s = row-one (m .part) this next
+gave-in HeadExit m this next a s = one-of (goesOn next) _ _ refl refl
+gave-in End m this next a s = refl
+gave-in EndExit m this next a s = end-one (m .part) this
+gave-in Open m this next a s = refl
+gave-in BodyLeave m this next a s = refl
+gave-in TableLeave m this next a s = refl
+
+pub gave-is : (es : List Event) (c : Cursor) → stepAt es c .gave ≡ moreOf c (eventAt es (c .at))
+unfolding resolveStep moreOf
+gave-is es c = gave-in (c .mode .phase) (c .mode) (eventAt es (c .at)) (eventAt es (plusOf (c .at) 1)) (lookAt es c .ahead) (lookAt es c .solid)
 
 -- ## Reading at a place
 

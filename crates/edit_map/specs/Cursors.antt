@@ -16,7 +16,7 @@ use Rattle.edit_map.specs.declared.resolve_look.Look.{Look}
 use Rattle.edit_map.specs.declared.resolve_step.Cursor.{Cursor}
 use Rattle.edit_map.specs.declared.resolve_step.Stepped.{Stepped}
 use Rattle.edit_map.specs.Base.{plusOf, isTextName}
-use Rattle.edit_map.specs.Turns.{plain, turnOf}
+use Rattle.edit_map.specs.Turns.{isOut, plain, turnOf}
 
 -- ## The look ahead
 
@@ -80,6 +80,10 @@ lookOf es c this = cond (asks (c .mode) this) (lookAll lookStart (drop (plusOf (
 -- the step of a cursor in a list
 abbrev pub stepAt : List Event → Cursor → Stepped
 stepAt es c = resolveStep c (eventAt es (c .at)) (eventAt es (plusOf (c .at) 1)) (lookOf es c (eventAt es (c .at)))
+
+-- 1 where one more record is to be given, 0 past the last
+unfoldable pub moreOf : Cursor → Event → ℕ
+moreOf c this = cond (isOut (c .mode .phase) && eqb (this .kind) 0) 0 1
 
 -- the stream's start, and a place past every list
 abbrev pub cursorAt : ℕ → Cursor

@@ -12,6 +12,25 @@ use Rattle.edit_map.specs.declared.resolve_turn.Mode.{Mode}
 use Rattle.edit_map.specs.declared.resolve_turn.Turn.{Turn}
 use Rattle.edit_map.specs.Base.{isRowName, isTextName}
 
+-- the phase before a table
+abbrev pub isOut : Phase → Bool
+isOut Out = true
+isOut Head = false
+isOut Row = false
+isOut Cell = false
+isOut Piece = false
+isOut Exit = false
+isOut Text = false
+isOut Copy = false
+isOut Leave = false
+isOut RowExit = false
+isOut HeadExit = false
+isOut End = false
+isOut EndExit = false
+isOut Open = false
+isOut BodyLeave = false
+isOut TableLeave = false
+
 -- ## One turn
 
 -- the name of a cell, by the kind of its row

@@ -12,6 +12,7 @@ use crate::resolve_look::look_step;
 use crate::resolve_step::Cursor;
 use crate::resolve_step::Stepped;
 use crate::resolve_step::cursor_at;
+use crate::resolve_step::more_at;
 use crate::resolve_step::resolve_step;
 use tokenizer::event::Event;
 use tokenizer::slots::at_or_blank;
@@ -139,8 +140,9 @@ pub fn resolve(list: &[Event], results: &mut [Event]) -> Resolved
     let r = accept(list);
     let c = stream_of(r);
     let last = fill_results(list, c, results);
-    let s = step_at(list, last);
-    let j = judge(r, last.given, s.gave, n);
+    let this = at_or_blank(list, last.at);
+    let more = more_at(last, this);
+    let j = judge(r, last.given, more, n);
     clear_from(results, j.keep);
     j.answer
 }

@@ -4,11 +4,12 @@ use crate::resolve_base::plus;
 use crate::resolve_look::Look;
 use crate::resolve_turn::Mode;
 use crate::resolve_turn::Phase;
+use crate::resolve_turn::is_out;
 use crate::resolve_turn::plainly;
 use crate::resolve_turn::turn_of;
 use tokenizer::event::Event;
 ghost use mathlib.Core.Path.{_≡_};
-ghost use Rattle.edit_map.specs.Cursors.{resolveStep, cursorAt};
+ghost use Rattle.edit_map.specs.Cursors.{moreOf, resolveStep, cursorAt};
 
 // Where the stream stands in the list, and how many records it gave.
 pub struct Cursor {
@@ -53,4 +54,20 @@ pub fn resolve_step(c: Cursor, this: Event, next: Event, look: Look) -> Stepped
         },
         gave: t.gave,
     }
+}
+
+// 1 where one more record is to be given, 0 past the last.
+pub fn more_at(c: Cursor, this: Event) -> usize
+    ensures { λ r. ⌜ r ≡ moreOf c this ⌝ }
+{
+    let m = c.mode;
+    let h = m.phase;
+    let k = this.kind;
+    if is_out(h) {
+        if k == 0 {
+            return 0;
+        }
+        return 1;
+    }
+    1
 }

@@ -12,7 +12,7 @@ ghost use mathlib.Core.Bool.{_||_, _&&_, not};
 ghost use lib.Dec.{eqb};
 ghost use Rattle.tokenizer.specs.Events;
 ghost use Rattle.edit_map.specs.Base.{isTextName};
-ghost use Rattle.edit_map.specs.Turns.{cellName, valueName, valuePhase, plain, to, given, pieceTurn, rowExitTurn, headExitTurn, outTurn, copyTurn, leaveCell, enterCell, enterValue, copyPiece, endExitTurn, turnOf};
+ghost use Rattle.edit_map.specs.Turns.{isOut, cellName, valueName, valuePhase, plain, to, given, pieceTurn, rowExitTurn, headExitTurn, outTurn, copyTurn, leaveCell, enterCell, enterValue, copyPiece, endExitTurn, turnOf};
 
 // Where the stream of result records stands.
 pub enum Phase {
@@ -81,6 +81,30 @@ fn value_phase(p: Part) -> Phase
         Part::Header => Phase::Text,
         Part::Delimiter => Phase::Copy,
         Part::Body => Phase::Text,
+    }
+}
+
+// Whether a phase is that before a table.
+pub fn is_out(h: Phase) -> bool
+    ensures { λ r. ⌜ r ≡ isOut h ⌝ }
+{
+    match h {
+        Phase::Out => true,
+        Phase::Head => false,
+        Phase::Row => false,
+        Phase::Cell => false,
+        Phase::Piece => false,
+        Phase::Exit => false,
+        Phase::Text => false,
+        Phase::Copy => false,
+        Phase::Leave => false,
+        Phase::RowExit => false,
+        Phase::HeadExit => false,
+        Phase::End => false,
+        Phase::EndExit => false,
+        Phase::Open => false,
+        Phase::BodyLeave => false,
+        Phase::TableLeave => false,
     }
 }
 

@@ -1,13 +1,16 @@
 -- A row's pieces begin with a run: of whitespace, of data, or one divider. What follows the run are the pieces of the rest.
 -- Assumes nothing.
-use Prim.Native.Nat.{ℕ, _≤_, _<_}
+use Prim.Native.Nat.{ℕ, _+_, _*_, _/_, _≤_, _<_}
 use mathlib.Core.Path.{_≡_, refl, ap, sym, _∙_}
-use mathlib.Core.Bool.{Bool, true, false, cond, not, _&&_, _||_}
+use mathlib.Core.Bool.{Bool, true, false, cond, not, _&&_, _||_, true≢false}
 use mathlib.Core.List.{List, [], _∷_, _++_}
 use mathlib.Core.Logic.{_⊎_, inl, inr}
+use native.Mathlib.Nat.{add-zero}
 use native.Mathlib.Omega.{arith}
 use borrow.Author.Tests.{eqb-true, eq-eqb, ne-eqb, eqb-false, not-true}
 use lib.Dec.{eqb}
+use Rattle.tokenizer.specs.Bytes.{kindOf}
+use Rattle.tokenizer.specs.Points.{columnAfter, columnPast}
 use Rattle.tokenizer.proofs.Runs.{split, space-split}
 use lib.ListN.{length}
 use Rattle.gfm_table.specs.Rows.{Piece, joins, onPieces, rowName, oddAfter, rowPieces}
@@ -178,3 +181,25 @@ module _ (kind : ℕ → ℕ) where
       go (pipe e) = simp e
       go (slash e) = simp e
       go (plain e f g) = simp (e, f, g)
+
+-- ## Columns
+
+tabless : (odd : Bool) (b : ℕ) → eqb (rowName kindOf odd b) 3 ≡ true → eqb b 9 ≡ false
+unfolding kindOf
+tabless odd b e = go (eqb b 9) refl
+  where
+    go : (t : Bool) → eqb b 9 ≡ t → t ≡ false
+    go true f = absurd (true≢false (sym e ∙ ap (λ (c : ℕ). eqb (rowName kindOf odd c) 3) (eqb-true b 9 f)))
+    go false f = refl
+
+-- no tab lies in data, so each byte is a column
+pub data-columns : (odd : Bool) (u : List ℕ) (c : ℕ) → columnPast c (dataRun kindOf odd u) ≡ c + length (dataRun kindOf odd u)
+unfolding columnPast columnAfter dataRun
+data-columns odd [] c = sym (add-zero c)
+data-columns odd (b ∷ u) c = go (eqb (rowName kindOf odd b) 3) refl (data-columns (oddAfter kindOf odd b) u (c + 1))
+  where
+    go : (t : Bool) → eqb (rowName kindOf odd b) 3 ≡ t → columnPast (c + 1) (dataRun kindOf (oddAfter kindOf odd b) u) ≡ c + 1 + length (dataRun kindOf (oddAfter kindOf odd b) u)
+        → columnPast c (cond t (b ∷ dataRun kindOf (oddAfter kindOf odd b) u) []) ≡ c + length (cond t (b ∷ dataRun kindOf (oddAfter kindOf odd b) u) [])
+    go true e h =
+        ap (λ (k : ℕ). columnPast k (dataRun kindOf (oddAfter kindOf odd b) u)) (ap (λ (t : Bool). cond t ((c + 3) / 4 * 4 + 1) (c + 1)) (tabless odd b e)) ∙ h ∙ (omega arith)
+    go false e h = sym (add-zero c)

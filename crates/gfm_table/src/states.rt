@@ -1,14 +1,18 @@
 // The states of a row: between two pieces, in data, after a backslash. Head and body share them.
+use crate::pieces::text_end;
 use tokenizer::event::Name;
 use tokenizer::event::Point;
 use tokenizer::moves::ahead;
+use tokenizer::moves::kind_at;
 use tokenizer::moves::over;
 use tokenizer::moves::space_end;
 ghost use mathlib.Core.Path.{_≡_};
 ghost use mathlib.Core.Bool.{false};
-ghost use Prim.Native.Nat.{_<_};
+ghost use Prim.Native.Nat.{_<_, _+_};
+ghost use lib.ListN.{length, drop};
 ghost use Rattle.tokenizer.specs.Bytes.{kindOf};
 ghost use Rattle.tokenizer.specs.Points.{past};
+ghost use Rattle.tokenizer.specs.Lines.{lineBody};
 ghost use Rattle.tokenizer.specs.Moves.{restOf, Inside};
 ghost use Rattle.gfm_table.specs.Machine.{Counted, AtData, dataRun, escaped, countedAs, passedTo, stepped, dataPiece, Passes, whole, startAt, RowRead};
 
@@ -30,34 +34,29 @@ pub enum Step {
 }
 
 // After a backslash: a backslash or a pipe is passed over.
-pub fn row_escape(s: &[u8], p: Point) -> Point
-    requires { ⌜ Inside (now s) p ⌝ }
-    ensures { λ r. ⌜ r ≡ past p (escaped kindOf (restOf (now (s .entry)) p)) ⌝ }
+pub fn row_escape(s: &[u8], at: usize) -> usize
+    ensures { λ r. ⌜ r ≡ at + length (escaped kindOf (lineBody (drop at (now (s .entry))))) ⌝ }
 {
-    match ahead(s, p) {
-        3 | 4 => over(s, p),
-        _ => p,
+    match kind_at(s, at) {
+        3 | 4 => at + 1,
+        _ => at,
     }
 }
 
-// The end of a run of data.
+// The end of a run of data. No tab lies in it, so a byte is a column.
 pub fn data_end(s: &[u8], p: Point) -> Point
     requires { ⌜ Inside (now s) p ⌝ }
     ensures { λ r. ⌜ r ≡ past p (dataRun kindOf false (restOf (now (s .entry)) p)) ⌝ }
 {
-    let mut q = p;
-    loop {
-        match ahead(s, q) {
-            1 | 2 | 3 => {
-                return q;
-            }
-            4 => {
-                q = row_escape(s, over(s, q));
-            }
-            _ => {
-                q = over(s, q);
-            }
-        }
+    let i = p.index as usize;
+    let e = text_end(s, i) as u32;
+    let n = e - p.index;
+    let column = p.column + n;
+    Point {
+        line: p.line,
+        column,
+        index: e,
+        vs: 0,
     }
 }
 

@@ -32,11 +32,9 @@ use Rattle.gfm_table.specs.Stream as Table
 use Rattle.gfm_table.proofs.Answers.{refused-end}
 use Rattle.gfm_table.proofs.Coming as T
 use Rattle.edit_map.specs.Tables.{BodyRow, rawBody}
-use Rattle.sheet.specs.declared.stream.Walk.{Walk}
-use Rattle.sheet.specs.declared.stream.Walk.the-variants.{Seek, In, Done}
-use Rattle.sheet.specs.declared.stream.Walked.{Walked}
 use Rattle.sheet.specs.Walk.{Found, lineEnd, bodyRows, opens, found, heads, rows, tables, rawOf}
-use Rattle.sheet.specs.Stream.{headsFrom, noMore, seekOf, onwardOf, inside, endedOf, nextOf, stepsOf, Standing, Good}
+use Rattle.sheet.specs.declared.stream.Place.{Place}
+use Rattle.sheet.specs.Stream.{Walk, Seek, In, Done, WalkStep, headsFrom, noMore, seekOf, onwardOf, inside, endedOf, nextOf, stepsOf, Standing, Good, placeOf, walkAt, stepOf}
 use Rattle.sheet.specs.From.{AtLine, here}
 use Rattle.sheet.proofs.Stops.{rows-same, stop-end, stop-past, stop-line, stop-here, end-here}
 use Rattle.sheet.proofs.From.{heads-blank, past-last, past-more, after-line}
@@ -100,11 +98,11 @@ module _ (s : List ℕ) (on : Bool) where
   coming Done = []
 
   -- a step gives the next event, or nothing more comes
-  pub data Gives (w : Walk) (r : Walked) : Type 0 where
+  pub data Gives (w : Walk) (r : WalkStep) : Type 0 where
     gives : coming w ≡ r .event ∷ coming (r .next) → Good s (r .next) → Gives w r
     ends : coming w ≡ [] → r ≡ noMore → Gives w r
 
-  same : (w v : Walk) (r : Walked) → coming w ≡ coming v → Gives v r → Gives w r
+  same : (w v : Walk) (r : WalkStep) → coming w ≡ coming v → Gives v r → Gives w r
   same w v r e (gives f g) = gives (e ∙ f) g
   same w v r e (ends f g) = ends (e ∙ f) g
 
@@ -243,6 +241,22 @@ module _ (s : List ℕ) (on : Bool) where
       go (gives e g) = g
       go (ends e r) = rw r (omega arith)
 
+-- ## Places
+
+-- a walk is the one at its place
+pub walk-place : (w : Walk) → walkAt (placeOf w) ≡ w
+walk-place (Seek p) = refl
+walk-place (In (Begin p)) = refl
+walk-place (In (Enter t p)) = refl
+walk-place (In (Between t p)) = refl
+walk-place (In (Entered t n p)) = refl
+walk-place (In (Ended t p)) = refl
+walk-place (In (Broken t p)) = refl
+walk-place Done = refl
+
+pub good-step : (s : List ℕ) (on : Bool) (w : Place) → Good s (walkAt w) → Good s (walkAt (stepOf s on w .next))
+good-step s on w h = rw (walk-place (nextOf s on (walkAt w) .next)) (good-next s on (walkAt w) h)
+
 -- ## Slots
 
 module _ (s : List ℕ) (on : Bool) where
@@ -266,4 +280,4 @@ pub break-line : (s : List ℕ) (on : Bool) (p : Point) → Inside s p → restO
     → record { event = enter LineEnding p; next = In (Broken Delimiter (after s p)) } ≡ endedOf s on Head p
 break-line s on p h e z =
     let n : endAt (drop (p .index) s) ≡ lineAt s p .end = end-here s p e h in
-    rw (ne-eqb (lineAt s p .end) 0 z, n, ne-eqb (lineAt s p .end) 0 z) (ap {B = Walked} (λ (q : Point). record { event = enter LineEnding p; next = In (Broken Delimiter (nextLine q (lineAt s p .end))) }) (stop-here s p e h))
+    rw (ne-eqb (lineAt s p .end) 0 z, n, ne-eqb (lineAt s p .end) 0 z) (ap {B = WalkStep} (λ (q : Point). record { event = enter LineEnding p; next = In (Broken Delimiter (nextLine q (lineAt s p .end))) }) (stop-here s p e h))

@@ -19,12 +19,10 @@ use Rattle.gfm_table.specs.Calls.{orElse, slotRefusal}
 use Rattle.edit_map.specs.declared.resolve.Resolved.{Resolved}
 use Rattle.edit_map.specs.declared.resolve.Resolved.the-variants as resolve
 use Rattle.edit_map.specs.Answers.{resolveAnswer, resolveSlots}
-use Rattle.sheet.specs.declared.stream.Walk.{Walk}
-use Rattle.sheet.specs.declared.stream.Walk.the-variants.{Seek, Done}
 use Rattle.sheet.specs.declared.calls.Plan.{Plan}
 use Rattle.sheet.specs.declared.calls.Verdict.{Verdict}
 use Rattle.sheet.specs.Walk.{Found, tables, rawOf, resolvedOf, alignedOf}
-use Rattle.sheet.specs.Stream.{nextOf, stepsOf, Good}
+use Rattle.sheet.specs.Stream.{Walk, Seek, Done, placeOf, walkAt, nextOf, stepsOf, Good}
 use Rattle.sheet.specs.Counting.{countsOf}
 use Rattle.sheet.specs.Aligning.{zeros, alignedInto}
 use Rattle.sheet.specs.Calls.{longRefusal, resultRefusal, alignRefusal, sheetNumber, sheetOf, sheetRaw, sheetResults, sheetAligned, noPlan, planOf, noVerdict, acceptOf, resolvedAs, judgeOf, leastOf}
@@ -62,7 +60,7 @@ module _ (s : List ℕ) (on : Bool) (n m k : ℕ) where
   plan = planOf s on n
 
   abbrev raw : List Event
-  raw = stepsOf s on n (plan .walk)
+  raw = stepsOf s on n (walkAt (plan .walk))
 
   abbrev list : List Event
   list = take (leastOf (plan .counts .raw) (length raw)) raw
@@ -84,7 +82,7 @@ module _ (s : List ℕ) (on : Bool) (n m k : ℕ) where
       let f = eqb-no in
       record {
         answer = rw (v, e, f);
-        events = rw (v, e, f) (cleared-blank raw n (steps-length s on n (plan .walk)));
+        events = rw (v, e, f) (cleared-blank raw n (steps-length s on n (walkAt (plan .walk))));
         results = rw (v, e, f) (cleared-blank (resolveSlots list m) m (results-length list m));
         aligned = rw (v, e, f);
         short = λ x. absurd (true≢false (sym x ∙ ap (λ (w : Verdict). w .go) v));
@@ -100,12 +98,12 @@ module _ (s : List ℕ) (on : Bool) (n m k : ℕ) where
 
   -- the plan that goes on
   module _ (h : length s ≤ 65536) (r : length (rawOf fs) ≤ n) where
-    p-is : plan ≡ record { refusal = 0; counts = countsOf fs; walk = Seek start }
+    p-is : plan ≡ record { refusal = 0; counts = countsOf fs; walk = placeOf (Seek start) }
     unfolding planOf
     p-is = rw (le-ltb 65536 (length s) h, le-ltb n (length (rawOf fs)) r)
 
     raw-is : raw ≡ slotsOf n (rawOf fs)
-    raw-is = ap (λ (p : Plan). stepsOf s on n (p .walk)) p-is ∙ steps-slots s on n (Seek start) (start-line s h) ∙ ap (slotsOf n) (coming-start s on)
+    raw-is = ap (λ (p : Plan). stepsOf s on n (walkAt (p .walk))) p-is ∙ steps-slots s on n (Seek start) (start-line s h) ∙ ap (slotsOf n) (coming-start s on)
 
     list-is : list ≡ rawOf fs
     list-is = ap (λ (p : Plan). take (leastOf (p .counts .raw) (length raw)) raw) p-is ∙ ap (λ (l : List Event). take (leastOf (length (rawOf fs)) (length l)) l) raw-is ∙ first-slots (rawOf fs) n r
@@ -126,7 +124,7 @@ module _ (s : List ℕ) (on : Bool) (n m k : ℕ) where
         let e : sheetNumber s on n m k ≡ 0 = number-is ∙ rw (a, b) in
         record {
           answer = rw (v, e, b);
-          events = rw (v, e, b) (cleared-none n raw (omega (arith, steps-length s on n (plan .walk))) ∙ raw-is);
+          events = rw (v, e, b) (cleared-none n raw (omega (arith, steps-length s on n (walkAt (plan .walk)))) ∙ raw-is);
           results = rw (v, e, b) (cleared-none m (resolveSlots list m) (omega (arith, results-length list m)) ∙ results-are ∙ rw a);
           aligned = rw (v, e, b);
           short = λ x. h;
@@ -149,11 +147,11 @@ module _ (s : List ℕ) (on : Bool) (n m k : ℕ) where
       go false true a b = refused-plan 9 (λ z. omega arith) (rw (a, b)) (rw (a, b))
       go false false a b = goes-on (ltb-false 65536 (length s) a) (ltb-false n (length (rawOf fs)) b)
 
-  pub plan-good : Good s (plan .walk)
+  pub plan-good : Good s (walkAt (plan .walk))
   unfolding planOf
   plan-good = go (ltb 65536 (length s)) (ltb n (length (rawOf fs))) refl
     where
-      go : (t u : Bool) → ltb 65536 (length s) ≡ t → Good s (cond t (noPlan 1) (cond u (noPlan 9) (record { refusal = 0; counts = countsOf fs; walk = Seek start })) .walk)
+      go : (t u : Bool) → ltb 65536 (length s) ≡ t → Good s (walkAt (cond t (noPlan 1) (cond u (noPlan 9) (record { refusal = 0; counts = countsOf fs; walk = placeOf (Seek start) })) .walk))
       go true u a = omega arith
       go false true a = omega arith
       go false false a = start-line s (ltb-false 65536 (length s) a)

@@ -12,8 +12,8 @@ use Rattle.sheet.specs.declared.stream.Walked.{Walked}
 use Rattle.sheet.specs.declared.count.Counts.{Counts}
 use Rattle.sheet.specs.declared.calls.Plan.{Plan}
 use Rattle.sheet.specs.declared.calls.Verdict.{Verdict}
-use Rattle.sheet.proofs.stream.Walk as Walk
-use Rattle.sheet.proofs.stream.Walk.Laws as Walk′
+use Rattle.sheet.proofs.stream.Place as Place
+use Rattle.sheet.proofs.stream.Place.Laws as Place′
 use Rattle.sheet.proofs.stream.Walked as Walked
 use Rattle.sheet.proofs.stream.Walked.Laws as Walked′
 use Rattle.sheet.proofs.calls.Sheet as Sheet
@@ -26,13 +26,13 @@ use Rattle.sheet.proofs.calls.Verdict as Verdict
 use Rattle.sheet.proofs.calls.Verdict.Laws as Verdict′
 
 abbrev pub Wk : RattleType
-Wk = Walk.the-row
+Wk = Place.the-row
 
 abbrev pub wk-ty : Ty
-wk-ty = Walk′.mir
+wk-ty = Place′.mir
 
 abbrev pub wk : Data Wk
-wk = enum-data-of Walk.the-type Walk′.the-laws Walk′.the-copy Walk′.the-plain tt
+wk = data-of Place.the-type Place′.the-laws Place′.the-copy Place′.the-plain
 
 abbrev pub Wd : RattleType
 Wd = Walked.the-row

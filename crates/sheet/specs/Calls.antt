@@ -11,7 +11,6 @@ use Rattle.tokenizer.specs.Slots.{slotsOf}
 use Rattle.gfm_table.specs.Calls.{orElse, slotRefusal}
 use Rattle.edit_map.specs.declared.resolve.Resolved.{Resolved}
 use Rattle.edit_map.specs.declared.resolve.Resolved.the-variants as resolve
-use Rattle.sheet.specs.declared.stream.Walk.the-variants.{Seek, Done}
 use Rattle.sheet.specs.declared.calls.Sheet.{Sheet}
 use Rattle.sheet.specs.declared.calls.Sheet.the-variants.{Refused, Accepted}
 use Rattle.sheet.specs.declared.calls.Plan.{Plan}
@@ -19,6 +18,7 @@ use Rattle.sheet.specs.declared.calls.Verdict.{Verdict}
 use Rattle.sheet.specs.declared.count.Counts.{Counts}
 use Rattle.sheet.specs.Walk.{Found, tables, rawOf, resolvedOf, alignedOf}
 use Rattle.sheet.specs.Counting.{countsOf}
+use Rattle.sheet.specs.Stream.{Seek, Done, placeOf}
 use Rattle.sheet.specs.Aligning.{alignedInto}
 
 -- ## Questions
@@ -76,14 +76,14 @@ noCounts = record { tables = 0; raw = 0; aligned = 0 }
 
 -- refused before a slot is written: nothing comes
 abbrev pub noPlan : ℕ → Plan
-noPlan q = record { refusal = q; counts = noCounts; walk = Done }
+noPlan q = record { refusal = q; counts = noCounts; walk = placeOf Done }
 
 -- questions 1 and 9, the counts, and where the raw events come from
 unfoldable pub planOf : List ℕ → Bool → ℕ → Plan
 planOf s on n =
     cond (ltb 65536 (length s)) (noPlan 1)
     (cond (ltb n (length (rawOf (tables kindOf on s)))) (noPlan 9)
-    (record { refusal = 0; counts = countsOf (tables kindOf on s); walk = Seek start }))
+    (record { refusal = 0; counts = countsOf (tables kindOf on s); walk = placeOf (Seek start) }))
 
 -- refused: no slot stays as it is
 abbrev pub noVerdict : ℕ → Verdict

@@ -18,27 +18,39 @@ use Rattle.gfm_table.specs.declared.stream.Cursor.{Cursor}
 use Rattle.gfm_table.specs.declared.stream.Cursor.the-variants.{Begin, Enter, Between, Entered, Ended, Broken}
 use Rattle.gfm_table.specs.declared.stream.Stepped.{Stepped}
 use Rattle.gfm_table.specs.Stream as Table
-use Rattle.sheet.specs.declared.stream.Walk.{Walk}
-use Rattle.sheet.specs.declared.stream.Walk.the-variants.{Seek, In, Done}
+use Rattle.sheet.specs.declared.stream.Phase.{Phase}
+use Rattle.sheet.specs.declared.stream.Phase.the-variants as phase
+use Rattle.sheet.specs.declared.stream.Place.{Place}
 use Rattle.sheet.specs.declared.stream.Walked.{Walked}
 use Rattle.sheet.specs.Walk.{Found, heads}
 use Rattle.sheet.specs.From.{AtLine}
+
+-- where the walk is: looking for a table from the line at a point on, inside a table, or done
+pub data Walk : Type 0 where
+  Seek : Point → Walk
+  In : Cursor → Walk
+  Done : Walk
+
+-- one step: an event, and where the walk is after it
+pub record WalkStep : Type 0 where
+  pub event : Event
+  pub next : Walk
 
 -- the tables from the line that starts at a point on
 abbrev pub headsFrom : List ℕ → Bool → Point → List Found
 headsFrom s on p = heads kindOf on (linesFrom s p)
 
 -- nothing more comes
-abbrev pub noMore : Walked
+abbrev pub noMore : WalkStep
 noMore = record { event = blankEvent; next = Done }
 
 -- the first of some tables is entered
-abbrev pub seekOf : List Found → Walked
+abbrev pub seekOf : List Found → WalkStep
 seekOf [] = noMore
 seekOf (f ∷ fs) = record { event = f .table .entry; next = In (Enter Head (pointOf (f .table .entry))) }
 
 -- behind a table's line: its next row, or the next table
-abbrev pub onwardOf : List ℕ → Bool → Point → Walked
+abbrev pub onwardOf : List ℕ → Bool → Point → WalkStep
 onwardOf s on e =
     cond (eqb (lineAt s e .end) 0) noMore
     (cond (blank kindOf (restOf s (after s e)))
@@ -46,15 +58,15 @@ onwardOf s on e =
     (record { event = enter LineEnding e; next = In (Broken Body (after s e)) }))
 
 -- a step inside a table
-abbrev pub inside : Stepped → Walked
+abbrev pub inside : Stepped → WalkStep
 inside r = record { event = r .event; next = In (r .next) }
 
-abbrev pub endedOf : List ℕ → Bool → Part → Point → Walked
+abbrev pub endedOf : List ℕ → Bool → Part → Point → WalkStep
 endedOf s on Head e = cond (eqb (lineAt s e .end) 0) noMore (inside (Table.stepOf s (Ended Head e)))
 endedOf s on Delimiter e = inside (Table.stepOf s (Ended Delimiter e))
 endedOf s on Body e = onwardOf s on e
 
-abbrev pub insideOf : List ℕ → Bool → Cursor → Walked
+abbrev pub insideOf : List ℕ → Bool → Cursor → WalkStep
 insideOf s on (Begin p) = inside (Table.stepOf s (Begin p))
 insideOf s on (Enter t p) = inside (Table.stepOf s (Enter t p))
 insideOf s on (Between t p) = inside (Table.stepOf s (Between t p))
@@ -63,7 +75,7 @@ insideOf s on (Ended t p) = endedOf s on t p
 insideOf s on (Broken t p) = inside (Table.stepOf s (Broken t p))
 
 -- the next event, and where the walk is after it
-unfoldable pub nextOf : List ℕ → Bool → Walk → Walked
+unfoldable pub nextOf : List ℕ → Bool → Walk → WalkStep
 nextOf s on (Seek p) = seekOf (headsFrom s on p)
 nextOf s on (In c) = insideOf s on c
 nextOf s on Done = noMore
@@ -86,3 +98,43 @@ abbrev pub Good : List ℕ → Walk → Type 0
 Good s (Seek p) = AtLine s p
 Good s (In c) = Standing s c
 Good s Done = 0 ≤ 0
+
+-- ## The same as the code has it, in one record
+
+-- a place that is not inside a piece
+abbrev pub unnamed : Phase → Part → Point → Place
+unnamed h t p = record { phase = h; part = t; name = 0; at = p }
+
+-- where a walk is
+abbrev pub placeOf : Walk → Place
+placeOf (Seek p) = unnamed phase.Seek Body p
+placeOf (In (Begin p)) = unnamed phase.Begin Body p
+placeOf (In (Enter t p)) = unnamed phase.Enter t p
+placeOf (In (Between t p)) = unnamed phase.Between t p
+placeOf (In (Entered t n p)) = record { phase = phase.Entered; part = t; name = n; at = p }
+placeOf (In (Ended t p)) = unnamed phase.Ended t p
+placeOf (In (Broken t p)) = unnamed phase.Broken t p
+placeOf Done = unnamed phase.Done Body start
+
+-- the walk that a phase, a line, a name and a point tell
+abbrev pub walkIn : Phase → Part → ℕ → Point → Walk
+walkIn phase.Seek t n p = Seek p
+walkIn phase.Begin t n p = In (Begin p)
+walkIn phase.Enter t n p = In (Enter t p)
+walkIn phase.Between t n p = In (Between t p)
+walkIn phase.Entered t n p = In (Entered t n p)
+walkIn phase.Ended t n p = In (Ended t p)
+walkIn phase.Broken t n p = In (Broken t p)
+walkIn phase.Done t n p = Done
+
+-- the walk that is at a place
+abbrev pub walkAt : Place → Walk
+walkAt w = walkIn (w .phase) (w .part) (w .name) (w .at)
+
+-- a step
+abbrev pub walkedOf : WalkStep → Walked
+walkedOf r = record { event = r .event; next = placeOf (r .next) }
+
+-- the step from a place
+abbrev pub stepOf : List ℕ → Bool → Place → Walked
+stepOf s on w = walkedOf (nextOf s on (walkAt w))

@@ -3,11 +3,12 @@ use crate::align::align_into;
 use crate::align::clear;
 use crate::count::Counts;
 use crate::count::count;
-use crate::stream::Walk;
+use crate::stream::Place;
+use crate::stream::begin;
+use crate::stream::done;
 use edit_map::resolve::Resolved;
 use edit_map::resolve::resolve;
 use tokenizer::event::Event;
-use tokenizer::event::Point;
 ghost use mathlib.Core.Path.{_≡_};
 ghost use mathlib.Core.Bool.{true};
 ghost use mathlib.Core.List.{_++_};
@@ -34,7 +35,7 @@ pub enum Sheet {
 pub struct Plan {
     pub refusal: u8,
     pub counts: Counts,
-    pub walk: Walk,
+    pub walk: Place,
 }
 
 // The answer, whether alignments are wanted, and how many raw and result slots stay as they are.
@@ -57,7 +58,7 @@ pub fn no_plan(refusal: u8) -> Plan
     Plan {
         refusal,
         counts,
-        walk: Walk::Done,
+        walk: done(),
     }
 }
 
@@ -75,7 +76,7 @@ pub fn sheet_plan(s: &[u8], on: bool, slots: usize) -> Plan
     Plan {
         refusal: 0,
         counts,
-        walk: Walk::Seek(Point::start()),
+        walk: begin(),
     }
 }
 

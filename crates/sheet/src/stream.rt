@@ -1,10 +1,10 @@
-// The raw events of a sheet, one at a time: the walk over its lines, and inside a table the table's own stream.
+// The raw events of a sheet, one at a time: the walk over its lines, and inside a table the pieces of its rows.
 use crate::seek::Next;
 use crate::seek::next_head;
-use gfm_table::stream;
-use gfm_table::stream::Cursor;
 use gfm_table::stream::Part;
-use gfm_table::stream::Stepped;
+use gfm_table::stream::Pieced;
+use gfm_table::stream::piece_at;
+use gfm_table::stream::row_name;
 use tokenizer::event::Event;
 use tokenizer::event::Name;
 use tokenizer::event::Point;
@@ -15,53 +15,83 @@ ghost use mathlib.Core.Path.{_≡_};
 ghost use mathlib.Core.List.{[]};
 ghost use mathlib.Core.Bool.{false};
 ghost use lib.ListN.{length};
+ghost use Rattle.tokenizer.specs.Points.{start};
 ghost use Rattle.tokenizer.specs.Moves.{restOf, Inside};
+ghost use Rattle.gfm_table.specs.Stream as Table;
 ghost use Rattle.sheet.specs.From.{AtLine};
-ghost use Rattle.sheet.specs.Stream.{noMore, headsFrom, seekOf, onwardOf, inside, endedOf, insideOf, nextOf, stepsOf, Standing, Good};
+ghost use Rattle.sheet.specs.Stream.{Seek, Done, unnamed, placeOf, walkAt, walkedOf, noMore, headsFrom, seekOf, onwardOf, inside, endedOf, stepOf, stepsOf, Good};
 
-// Looking for a table from the line at a point on, inside a table, or done.
-pub enum Walk {
-    Seek(Point),
-    In(Cursor),
+// Looking for a table, before a head, before a row, between two pieces, inside a piece, at the end of a row, inside the line end before
+// a row, or done.
+pub enum Phase {
+    Seek,
+    Begin,
+    Enter,
+    Between,
+    Entered,
+    Ended,
+    Broken,
     Done,
+}
+
+// Where the walk is: a phase, with the line, the name of a piece and the point that it is about.
+pub struct Place {
+    pub phase: Phase,
+    pub part: Part,
+    pub name: u8,
+    pub at: Point,
 }
 
 pub struct Walked {
     pub event: Event,
-    pub next: Walk,
+    pub next: Place,
+}
+
+// A place that is not inside a piece.
+pub fn unnamed(phase: Phase, part: Part, at: Point) -> Place
+    ensures { λ r. ⌜ r ≡ unnamed phase part at ⌝ }
+{
+    Place {
+        phase,
+        part,
+        name: 0,
+        at,
+    }
+}
+
+// Before the first line.
+pub fn begin() -> Place
+    ensures { λ r. ⌜ r ≡ placeOf (Seek start) ⌝ }
+{
+    unnamed(Phase::Seek, Part::Body, Point::start())
+}
+
+// Behind the last table.
+pub fn done() -> Place
+    ensures { λ r. ⌜ r ≡ placeOf Done ⌝ }
+{
+    unnamed(Phase::Done, Part::Body, Point::start())
 }
 
 // Nothing more comes.
 pub fn no_more() -> Walked
-    ensures { λ r. ⌜ r ≡ noMore ⌝ }
+    ensures { λ r. ⌜ r ≡ walkedOf noMore ⌝ }
 {
     Walked {
         event: Event::blank(),
-        next: Walk::Done,
-    }
-}
-
-// A step of the table's own stream.
-pub fn inside_table(r: Stepped) -> Walked
-    ensures { λ w. ⌜ w ≡ inside r ⌝ }
-{
-    let event = r.event;
-    let next = r.next;
-    Walked {
-        event,
-        next: Walk::In(next),
+        next: done(),
     }
 }
 
 // The next table is entered, if there is one.
 pub fn step_seek(s: &[u8], on: bool, p: Point) -> Walked
     requires { ⌜ AtLine (now s) p ⌝ }
-    ensures { λ r. ⌜ r ≡ seekOf (headsFrom (now (s .entry)) on p) ⌝ }
+    ensures { λ r. ⌜ r ≡ walkedOf (seekOf (headsFrom (now (s .entry)) on p)) ⌝ }
 {
     match next_head(s, p, on) {
         Next::Head(q, o) => Walked {
             event: Event::enter(Name::GfmTableHead, q),
-            next: Walk::In(Cursor::Enter(Part::Head, q)),
+            next: unnamed(Phase::Enter, Part::Head, q),
         },
         Next::Nothing => no_more(),
     }
@@ -70,7 +100,7 @@ pub fn step_seek(s: &[u8], on: bool, p: Point) -> Walked
 // Behind a line of a table: its next row, or the next table.
 pub fn step_onward(s: &[u8], on: bool, e: Point) -> Walked
     requires { ⌜ Inside (now s) e ⌝ }
-    ensures { λ r. ⌜ r ≡ onwardOf (now (s .entry)) on e ⌝ }
+    ensures { λ r. ⌜ r ≡ walkedOf (onwardOf (now (s .entry)) on e) ⌝ }
 {
     match line_after(s, e) {
         Further::Last => no_more(),
@@ -80,7 +110,7 @@ pub fn step_onward(s: &[u8], on: bool, e: Point) -> Walked
             }
             Walked {
                 event: Event::enter(Name::LineEnding, e),
-                next: Walk::In(Cursor::Broken(Part::Body, q)),
+                next: unnamed(Phase::Broken, Part::Body, q),
             }
         }
     }
@@ -89,13 +119,13 @@ pub fn step_onward(s: &[u8], on: bool, e: Point) -> Walked
 // Behind a head line: its line end is entered.
 pub fn step_break(s: &[u8], e: Point) -> Walked
     requires { ⌜ Inside (now s) e × (restOf (now s) e ≡ []) ⌝ }
-    ensures { λ r. ⌜ r ≡ endedOf (now (s .entry)) false Part.Head e ⌝ }
+    ensures { λ r. ⌜ r ≡ walkedOf (endedOf (now (s .entry)) false Part.Head e) ⌝ }
 {
     match line_after(s, e) {
         Further::Last => no_more(),
         Further::More(q) => Walked {
             event: Event::enter(Name::LineEnding, e),
-            next: Walk::In(Cursor::Broken(Part::Delimiter, q)),
+            next: unnamed(Phase::Broken, Part::Delimiter, q),
         },
     }
 }
@@ -103,49 +133,76 @@ pub fn step_break(s: &[u8], e: Point) -> Walked
 // Behind a row of a table.
 pub fn step_ended(s: &[u8], on: bool, part: Part, e: Point) -> Walked
     requires { ⌜ Inside (now s) e × (restOf (now s) e ≡ []) ⌝ }
-    ensures { λ r. ⌜ r ≡ endedOf (now (s .entry)) on part e ⌝ }
+    ensures { λ r. ⌜ r ≡ walkedOf (endedOf (now (s .entry)) on part e) ⌝ }
 {
     match part {
         Part::Head => step_break(s, e),
         Part::Delimiter => Walked {
             event: Event::exit(Name::GfmTableHead, e),
-            next: Walk::In(Cursor::Ended(Part::Body, e)),
+            next: unnamed(Phase::Ended, Part::Body, e),
         },
         Part::Body => step_onward(s, on, e),
     }
 }
 
-// Inside a table.
-pub fn step_inside(s: &[u8], on: bool, c: Cursor) -> Walked
-    requires { ⌜ Standing (now s) c ⌝ }
-    ensures { λ r. ⌜ r ≡ insideOf (now (s .entry)) on c ⌝ }
+// Between two pieces: the next is entered, or the row is left.
+pub fn step_between(s: &[u8], part: Part, p: Point) -> Walked
+    requires { ⌜ Inside (now s) p ⌝ }
+    ensures { λ r. ⌜ r ≡ walkedOf (inside (Table.betweenOf part p (Table.pieceAt (now (s .entry)) part p))) ⌝ }
 {
-    match c {
-        Cursor::Begin(p) => inside_table(stream::step(s, Cursor::Begin(p))),
-        Cursor::Enter(part, p) => inside_table(stream::step(s, Cursor::Enter(part, p))),
-        Cursor::Between(part, p) => inside_table(stream::step(s, Cursor::Between(part, p))),
-        Cursor::Entered(part, n, p) => inside_table(stream::step(s, Cursor::Entered(part, n, p))),
-        Cursor::Ended(part, e) => step_ended(s, on, part, e),
-        Cursor::Broken(part, p) => inside_table(stream::step(s, Cursor::Broken(part, p))),
+    match piece_at(s, part, p) {
+        Pieced::To(n, q) => Walked {
+            event: Event::enter(n, p),
+            next: Place {
+                phase: Phase::Entered,
+                part,
+                name: n,
+                at: q,
+            },
+        },
+        Pieced::Nothing => Walked {
+            event: Event::exit(row_name(part), p),
+            next: unnamed(Phase::Ended, part, p),
+        },
     }
 }
 
 // The next event, and where the walk is after it. At the end blank events come for ever.
-pub fn step(s: &[u8], on: bool, w: Walk) -> Walked
-    requires { ⌜ Good (now s) w ⌝ }
-    ensures { λ r. ⌜ r ≡ nextOf (now (s .entry)) on w ⌝ }
+pub fn step(s: &[u8], on: bool, w: Place) -> Walked
+    requires { ⌜ Good (now s) (walkAt w) ⌝ }
+    ensures { λ r. ⌜ r ≡ stepOf (now (s .entry)) on w ⌝ }
 {
-    match w {
-        Walk::Seek(p) => step_seek(s, on, p),
-        Walk::In(c) => step_inside(s, on, c),
-        Walk::Done => no_more(),
+    let phase = w.phase;
+    let part = w.part;
+    let p = w.at;
+    match phase {
+        Phase::Seek => step_seek(s, on, p),
+        Phase::Begin => Walked {
+            event: Event::enter(Name::GfmTableHead, p),
+            next: unnamed(Phase::Enter, Part::Head, p),
+        },
+        Phase::Enter => Walked {
+            event: Event::enter(row_name(part), p),
+            next: unnamed(Phase::Between, part, p),
+        },
+        Phase::Between => step_between(s, part, p),
+        Phase::Entered => Walked {
+            event: Event::exit(w.name, p),
+            next: unnamed(Phase::Between, part, p),
+        },
+        Phase::Ended => step_ended(s, on, part, p),
+        Phase::Broken => Walked {
+            event: Event::exit(Name::LineEnding, p),
+            next: unnamed(Phase::Enter, part, p),
+        },
+        Phase::Done => no_more(),
     }
 }
 
 // Every slot is filled with what comes from a place of the walk.
-pub fn fill(sheet: &[u8], on: bool, w: Walk, slots: &mut [Event])
-    requires { ⌜ Good (now sheet) w ⌝ }
-    ensures { λ _. ⌜ now (slots .exit) ≡ stepsOf (now (sheet .entry)) on (length (now (slots .entry))) w ⌝ }
+pub fn fill(sheet: &[u8], on: bool, w: Place, slots: &mut [Event])
+    requires { ⌜ Good (now sheet) (walkAt w) ⌝ }
+    ensures { λ _. ⌜ now (slots .exit) ≡ stepsOf (now (sheet .entry)) on (length (now (slots .entry))) (walkAt w) ⌝ }
 {
     let mut walk = w;
     let mut i = 0;

@@ -279,3 +279,18 @@ pub fn kind(b: u8) -> u8
 {
     KINDS[b as usize]
 }
+
+// The same by cases, for the places that look at every byte: the compiler lays a constant out anew at each lookup.
+pub fn classify(b: u8) -> u8
+    ensures { λ r. ⌜ r ≡ kindOf b ⌝ }
+{
+    match b {
+        9 | 32 => 1,
+        10 | 13 => 2,
+        124 => 3,
+        92 => 4,
+        45 => 5,
+        58 => 6,
+        _ => 0,
+    }
+}

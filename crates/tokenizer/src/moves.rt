@@ -1,6 +1,6 @@
 // Moves over whole bytes of a line: a tab at once, and runs of one kind.
 use crate::event::Point;
-use crate::kinds::kind;
+use crate::kinds::classify;
 ghost use mathlib.Core.Path.{_≡_};
 ghost use Prim.Native.Nat.{_<_};
 ghost use lib.ListN.{length, drop};
@@ -14,7 +14,7 @@ pub fn kind_at(s: &[u8], at: usize) -> u8
     ensures { λ r. ⌜ r ≡ aheadOf kindOf (drop at (now (s .entry))) ⌝ }
 {
     if at < s.len() {
-        return kind(s[at]);
+        return classify(s[at]);
     }
     2
 }

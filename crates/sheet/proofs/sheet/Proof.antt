@@ -9,7 +9,7 @@ use Rattle.tokenizer.specs.Bytes.{kindOf}
 use Rattle.tokenizer.specs.Slots.{clearedFrom}
 use Rattle.edit_map.specs.Answers.{resolveAnswer, resolveSlots}
 use Rattle.sheet.specs.Walk.{tables as found, alignedOf}
-use Rattle.sheet.specs.Stream.{stepsOf, Good}
+use Rattle.sheet.specs.Stream.{walkAt, stepsOf, Good}
 use Rattle.sheet.specs.Aligning.{alignedInto}
 use Rattle.sheet.specs.Calls.{sheetOf, sheetRaw, sheetResults, sheetAligned, planOf, judgeOf, leastOf}
 use Rattle.sheet.proofs.Sheets.{right, plan-good}
@@ -85,7 +85,7 @@ module _ {M : Type 1} (𝓤 : URA M) (H : Heap 𝓤) (A : Atoms 𝓤) (W : Given
   abbrev to-stream-fill : (κ₁ : Lft) (q₁ : Share) (b₁ o₁ n₁ : ℕ) (γ₁ : GName) (ys₁ : List (u8 .Denot)) (a₂ : bool .Denot) (a₃ : Wk .Denot) (κ₄ : Lft) (q₄ : Share) (b₄ o₄ n₄ : ℕ) (γ₄ : GName) (ys₄ : List (Ev .Denot)) → StreamFill′ 𝓤 H A mem run′ .Ghost
   to-stream-fill κ₁ q₁ b₁ o₁ n₁ γ₁ ys₁ a₂ a₃ κ₄ q₄ b₄ o₄ n₄ γ₄ ys₄ = (((κ₁, (κ₄, tt)), (q₁, (q₄, tt)), tt, (sl b₁ o₁ γ₁ ys₁, (a₂, (a₃, (sl b₄ o₄ γ₄ ys₄, tt)))), (sliceVal (b₁, o₁) n₁ ∷ [], (bool-data .val a₂ ∷ [], (wk .val a₃ ∷ [], (sliceVal (b₄, o₄) n₄ ∷ [], tt))))), tt)
 
-  asks-stream-fill : (κ₁ : Lft) (q₁ : Share) (b₁ o₁ n₁ : ℕ) (γ₁ : GName) (ys₁ : List (u8 .Denot)) (a₂ : bool .Denot) (a₃ : Wk .Denot) (κ₄ : Lft) (q₄ : Share) (b₄ o₄ n₄ : ℕ) (γ₄ : GName) (ys₄ : List (Ev .Denot)) (a₂-ok : Is bool a₂ (vals bool-data a₂)) (a₃-ok : Is Wk a₃ (vals wk a₃)) (asked : Good ys₁ a₃) → ent 𝓤 (⋆ 𝓤 H A (‵ (Shr u8 κ₁ b₁ o₁ n₁ γ₁ ys₁) ∷ ‵ (flft κ₁ q₁) ∷ ‵ (Mut Ev κ₄ b₄ o₄ n₄ γ₄ ys₄) ∷ ‵ (flft κ₄ q₄) ∷ [])) (⋆ 𝓤 H A (raw (StreamFill′ 𝓤 H A mem run′ .pre (to-stream-fill κ₁ q₁ b₁ o₁ n₁ γ₁ ys₁ a₂ a₃ κ₄ q₄ b₄ o₄ n₄ γ₄ ys₄)) ∷ []))
+  asks-stream-fill : (κ₁ : Lft) (q₁ : Share) (b₁ o₁ n₁ : ℕ) (γ₁ : GName) (ys₁ : List (u8 .Denot)) (a₂ : bool .Denot) (a₃ : Wk .Denot) (κ₄ : Lft) (q₄ : Share) (b₄ o₄ n₄ : ℕ) (γ₄ : GName) (ys₄ : List (Ev .Denot)) (a₂-ok : Is bool a₂ (vals bool-data a₂)) (a₃-ok : Is Wk a₃ (vals wk a₃)) (asked : Good ys₁ (walkAt a₃)) → ent 𝓤 (⋆ 𝓤 H A (‵ (Shr u8 κ₁ b₁ o₁ n₁ γ₁ ys₁) ∷ ‵ (flft κ₁ q₁) ∷ ‵ (Mut Ev κ₄ b₄ o₄ n₄ γ₄ ys₄) ∷ ‵ (flft κ₄ q₄) ∷ [])) (⋆ 𝓤 H A (raw (StreamFill′ 𝓤 H A mem run′ .pre (to-stream-fill κ₁ q₁ b₁ o₁ n₁ γ₁ ys₁ a₂ a₃ κ₄ q₄ b₄ o₄ n₄ γ₄ ys₄)) ∷ []))
   asks-stream-fill κ₁ q₁ b₁ o₁ n₁ γ₁ ys₁ a₂ a₃ κ₄ q₄ b₄ o₄ n₄ γ₄ ys₄ a₂-ok a₃-ok asked =
       qed W (‵ (Shr u8 κ₁ b₁ o₁ n₁ γ₁ ys₁) ∷ ‵ (flft κ₁ q₁) ∷ ‵ (Mut Ev κ₄ b₄ o₄ n₄ γ₄ ys₄) ∷ ‵ (flft κ₄ q₄) ∷ []) ∵ says ! asked $ nothing ! $ move ! (4 ∷ 0 ∷ []) $ join ! $ move ! (2 ∷ 0 ∷ []) $ join ! $ frame ! $ nothing ! $ move ! (2 ∷ 0 ∷ []) $ fjoin ! $ owned ! Wk (Is Wk) (wk .makes M 𝓤 H A W) a₃ _ a₃-ok $ fjoin ! $ owned ! bool (Is bool) (bool-data .makes M 𝓤 H A W) a₂ _ a₂-ok $ fjoin ! $ move ! (1 ∷ 0 ∷ []) $ fjoin ! $ done !
 
@@ -150,7 +150,7 @@ module _ {M : Type 1} (𝓤 : URA M) (H : Heap 𝓤) (A : Atoms 𝓤) (W : Given
     r1 = planOf st on (length ys)
 
     abbrev ys2 : List (Ev .Denot)
-    ys2 = stepsOf st on (length ys) (r1 .walk)
+    ys2 = stepsOf st on (length ys) (walkAt (r1 .walk))
 
     abbrev r3 : usize .Denot
     r3 = r1 .counts .raw

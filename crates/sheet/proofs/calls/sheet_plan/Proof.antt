@@ -29,14 +29,14 @@ returns-2 c =
     let r = c .before .before .before in
     rw (le-ltb _ _ (r .before .if1 .left), lt-ltb _ _ (rw (r .count .ensures) at (c .before .if2 .taken))) (c .no-plan2 .ensures)
 
-start-requires : tie.Need-start-requires
-start-requires c κs = search needs
+begin-requires : tie.Need-begin-requires
+begin-requires c κs = search needs
 
 returns-3 : tie.Need-returns-3
 unfolding planOf
 returns-3 c =
     let r = c .before .before .before in
-    rw (le-ltb _ _ (r .before .if1 .left), le-ltb _ _ (rw (r .count .ensures) at (c .before .if2 .left)), r .count .ensures, c .start .ensures)
+    rw (le-ltb _ _ (r .before .if1 .left), le-ltb _ _ (rw (r .count .ensures) at (c .before .if2 .left)), r .count .ensures, c .begin .ensures)
 
 pub sheet-plan-spec : {M : Type 1} → statement M
 sheet-plan-spec =
@@ -48,5 +48,5 @@ sheet-plan-spec =
     cast-if2
     no-plan-requires-2
     returns-2
-    start-requires
+    begin-requires
     returns-3)

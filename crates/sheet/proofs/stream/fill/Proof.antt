@@ -5,8 +5,8 @@ use Rattle.sheet.proofs.Types.{Wk, wk, wk-ty, wd, wd-ty, wd-event, wd-n
 use Rattle.tokenizer.proofs.Types.{Ev, ev}
 use Rattle.tokenizer.specs.Events.{blankEvent}
 use Rattle.tokenizer.proofs.Filling as F
-use Rattle.sheet.specs.Stream.{nextOf, stepsOf, Good}
-use Rattle.sheet.proofs.Coming.{good-next}
+use Rattle.sheet.specs.Stream.{Walk, walkAt, stepOf, nextOf, stepsOf, Good}
+use Rattle.sheet.proofs.Coming.{walk-place, good-step}
 use Rattle.sheet.proofs.stream.step as stream-step
 use Rattle.sheet.proofs.stream.step.Symbol as stream-step-def
 use Rattle.sheet.proofs.stream.step.Symbol.{name as #sheet·stream·step}
@@ -24,11 +24,11 @@ abbrev StreamStep′ : {M : Type 1} (𝓤 : URA M) (H : Heap 𝓤) (A : Atoms �
 StreamStep′ 𝓤 H A mem run′ = tripleOf 𝓤 H A stream-step.signature (stream-step.spec 𝓤 H A mem run′)
 
 -- what one more turn writes, and none
-steps-more : (s : List ℕ) (on : Bool) (w : Wk .Denot) (k : ℕ) → stepsOf s on (suc k) w ≡ nextOf s on w .event ∷ stepsOf s on k (nextOf s on w .next)
+steps-more : (s : List ℕ) (on : Bool) (w : Wk .Denot) (k : ℕ) → stepsOf s on (suc k) (walkAt w) ≡ stepOf s on w .event ∷ stepsOf s on k (walkAt (stepOf s on w .next))
 unfolding stepsOf
-steps-more s on w k = refl
+steps-more s on w k = ap (λ (v : Walk). nextOf s on (walkAt w) .event ∷ stepsOf s on k v) (sym (walk-place (nextOf s on (walkAt w) .next)))
 
-steps-none : (s : List ℕ) (on : Bool) (w : Wk .Denot) → stepsOf s on 0 w ≡ []
+steps-none : (s : List ℕ) (on : Bool) (w : Wk .Denot) → stepsOf s on 0 (walkAt w) ≡ []
 unfolding stepsOf
 steps-none s on w = refl
 
@@ -37,11 +37,11 @@ module _ {M : Type 1} (𝓤 : URA M) (H : Heap 𝓤) (A : Atoms 𝓤) (W : Given
   abbrev to-stream-step : (κ₁ : Lft) (q₁ : Share) (b₁ o₁ n₁ : ℕ) (γ₁ : GName) (ys₁ : List (u8 .Denot)) (a₂ : bool .Denot) (a₃ : Wk .Denot) → StreamStep′ 𝓤 H A mem run′ .Ghost
   to-stream-step κ₁ q₁ b₁ o₁ n₁ γ₁ ys₁ a₂ a₃ = (((κ₁, tt), (q₁, tt), tt, (sl b₁ o₁ γ₁ ys₁, (a₂, (a₃, tt))), (sliceVal (b₁, o₁) n₁ ∷ [], (bool-data .val a₂ ∷ [], (wk .val a₃ ∷ [], tt)))), tt)
 
-  asks-stream-step : (κ₁ : Lft) (q₁ : Share) (b₁ o₁ n₁ : ℕ) (γ₁ : GName) (ys₁ : List (u8 .Denot)) (a₂ : bool .Denot) (a₃ : Wk .Denot) (a₂-ok : Is bool a₂ (vals bool-data a₂)) (a₃-ok : Is Wk a₃ (vals wk a₃)) (asked : Good ys₁ a₃) → ent 𝓤 (⋆ 𝓤 H A (‵ (Shr u8 κ₁ b₁ o₁ n₁ γ₁ ys₁) ∷ ‵ (flft κ₁ q₁) ∷ [])) (⋆ 𝓤 H A (raw (StreamStep′ 𝓤 H A mem run′ .pre (to-stream-step κ₁ q₁ b₁ o₁ n₁ γ₁ ys₁ a₂ a₃)) ∷ []))
+  asks-stream-step : (κ₁ : Lft) (q₁ : Share) (b₁ o₁ n₁ : ℕ) (γ₁ : GName) (ys₁ : List (u8 .Denot)) (a₂ : bool .Denot) (a₃ : Wk .Denot) (a₂-ok : Is bool a₂ (vals bool-data a₂)) (a₃-ok : Is Wk a₃ (vals wk a₃)) (asked : Good ys₁ (walkAt a₃)) → ent 𝓤 (⋆ 𝓤 H A (‵ (Shr u8 κ₁ b₁ o₁ n₁ γ₁ ys₁) ∷ ‵ (flft κ₁ q₁) ∷ [])) (⋆ 𝓤 H A (raw (StreamStep′ 𝓤 H A mem run′ .pre (to-stream-step κ₁ q₁ b₁ o₁ n₁ γ₁ ys₁ a₂ a₃)) ∷ []))
   asks-stream-step κ₁ q₁ b₁ o₁ n₁ γ₁ ys₁ a₂ a₃ a₂-ok a₃-ok asked =
       qed W (‵ (Shr u8 κ₁ b₁ o₁ n₁ γ₁ ys₁) ∷ ‵ (flft κ₁ q₁) ∷ []) ∵ says ! asked $ nothing ! $ move ! (2 ∷ 0 ∷ []) $ join ! $ frame ! $ nothing ! $ owned ! Wk (Is Wk) (wk .makes M 𝓤 H A W) a₃ _ a₃-ok $ fjoin ! $ owned ! bool (Is bool) (bool-data .makes M 𝓤 H A W) a₂ _ a₂-ok $ fjoin ! $ move ! (1 ∷ 0 ∷ []) $ fjoin ! $ done !
 
-  module _ (κ κ′ : Lft) (q q′ : Share) (b o : ℕ) (γ : GName) (sheet : List (u8 .Denot)) (room : Room u8 (length sheet)) (on : bool .Denot) (on-ok : Is bool on (vals bool-data on)) (w : Wk .Denot) (w-ok : Is Wk w (vals wk w)) (b′ o′ : ℕ) (γ′ : GName) (ys : List (Ev .Denot)) (room′ : Room Ev (length ys)) (asked : Good sheet w) where
+  module _ (κ κ′ : Lft) (q q′ : Share) (b o : ℕ) (γ : GName) (sheet : List (u8 .Denot)) (room : Room u8 (length sheet)) (on : bool .Denot) (on-ok : Is bool on (vals bool-data on)) (w : Wk .Denot) (w-ok : Is Wk w (vals wk w)) (b′ o′ : ℕ) (γ′ : GName) (ys : List (Ev .Denot)) (room′ : Room Ev (length ys)) (asked : Good sheet (walkAt w)) where
     abbrev x : RefT (List (u8 .Denot)) × (bool .Denot × (Wk .Denot × (RefT (List (Ev .Denot)) × Unit {0})))
     x = (sl b o γ sheet, (on, (w, (sl b′ o′ γ′ ys, tt))))
 
@@ -51,7 +51,7 @@ module _ {M : Type 1} (𝓤 : URA M) (H : Heap 𝓤) (A : Atoms 𝓤) (W : Given
     abbrev Post : Val → SProp 𝓤
     Post = walkOf 𝓤 H A fill.ended stayed (fill.clauses 𝓤 H A mem run′) .post (((κ, (κ′, tt)), (q, (q′, tt)), tt, x, vs), tt)
 
-    exits : (zs′ : List (Ev .Denot)) (zs′-len : length zs′ ≡ length ys) (said : zs′ ≡ stepsOf sheet on (length ys) w) → ent 𝓤 (⋆ 𝓤 H A (‵ (Shr u8 κ b o (length sheet) γ sheet) ∷ ‵ (flft κ q) ∷ ‵ (Mut Ev κ′ b′ o′ (length ys) γ′ zs′) ∷ ‵ (flft κ′ q′) ∷ [])) (Post vunit)
+    exits : (zs′ : List (Ev .Denot)) (zs′-len : length zs′ ≡ length ys) (said : zs′ ≡ stepsOf sheet on (length ys) (walkAt w)) → ent 𝓤 (⋆ 𝓤 H A (‵ (Shr u8 κ b o (length sheet) γ sheet) ∷ ‵ (flft κ q) ∷ ‵ (Mut Ev κ′ b′ o′ (length ys) γ′ zs′) ∷ ‵ (flft κ′ q′) ∷ [])) (Post vunit)
     exits zs′ zs′-len said =
         qed W (‵ (Shr u8 κ b o (length sheet) γ sheet) ∷ ‵ (flft κ q) ∷ ‵ (Mut Ev κ′ b′ o′ (length ys) γ′ zs′) ∷ ‵ (flft κ′ q′) ∷ []) ∵
         suffices ! _ (ends-at 𝓤 H A fill.ended stayed (fill.clauses 𝓤 H A mem run′) W (((κ, (κ′, tt)), (q, (q′, tt)), tt, x, vs), tt) vunit tt (tt, (tt, (tt, (zs′, tt)))) (tt, (tt, (tt, (zs′-len, tt))))) $ says ! said $
@@ -59,10 +59,10 @@ module _ {M : Type 1} (𝓤 : URA M) (H : Heap 𝓤) (A : Atoms 𝓤) (W : Given
 
     -- the loop's state
     abbrev Turn : Type 0
-    Turn = F.Turn (λ i (s : Wk .Denot). Is Wk s (vals wk s) × Good sheet s) (stepsOf sheet on) ys (stepsOf sheet on (length ys) w)
+    Turn = F.Turn (λ i (s : Wk .Denot). Is Wk s (vals wk s) × Good sheet (walkAt s)) (λ (k : ℕ) (v : Wk .Denot). stepsOf sheet on k (walkAt v)) ys (stepsOf sheet on (length ys) (walkAt w))
 
     abbrev Fewer : Turn → Turn → Type 0
-    Fewer = F.Fewer (λ i (s : Wk .Denot). Is Wk s (vals wk s) × Good sheet s) (stepsOf sheet on) ys (stepsOf sheet on (length ys) w)
+    Fewer = F.Fewer (λ i (s : Wk .Denot). Is Wk s (vals wk s) × Good sheet (walkAt s)) (λ (k : ℕ) (v : Wk .Denot). stepsOf sheet on k (walkAt v)) ys (stepsOf sheet on (length ys) (walkAt w))
 
     module _ (𝓣 : Tables 𝓤 H) (known-stream-step : Triple 𝓤 (𝓣 .C #sheet·stream·step) (StreamStep′ 𝓤 H A mem run′)) (l₀ l₁ l₂ l₃ l₄ l₅ l₆ l₇ l₈ l₉ l₁₀ : ℕ) where
       abbrev C : Calls 𝓤 H
@@ -92,19 +92,19 @@ module _ {M : Type 1} (𝓤 : URA M) (H : Heap 𝓤) (A : Atoms 𝓤) (W : Given
           -- _7 := stream::step(_1, _2, _5)
           copies ! u8 sheet b o _ $ move ! (0 ∷ 2 ∷ []) $
           cut (‵ (Shr u8 κ b o (length sheet) γ sheet) ∷ ‵ (flft κ q) ∷ []) (raw (StreamStep′ 𝓤 H A mem run′ .pre (to-stream-step κ q b o (length sheet) γ sheet on (t .s))) ∷ []) _ (asks-stream-step κ q b o (length sheet) γ sheet on (t .s) on-ok (t .fits .0) (t .fits .1)) $
-          calls-plain ! (fmOf 𝓤 H (W .laws) 𝓣) stream-step.ended (stream-step.clauses 𝓤 H A mem run′) known-stream-step (to-stream-step κ q b o (length sheet) γ sheet on (t .s)) wd (nextOf sheet on (t .s)) (λ r ws. id⊢ 𝓤 _) (and-then ! (load ! (from ! (stop !)) (look ! 22 refl)) (and-then ! (load ! (from ! (stop !)) (look ! 20 refl)) (and-then ! (load ! (from ! (stop !)) (look ! 14 refl)) (no-more !)))) (λ ok1.
+          calls-plain ! (fmOf 𝓤 H (W .laws) 𝓣) stream-step.ended (stream-step.clauses 𝓤 H A mem run′) known-stream-step (to-stream-step κ q b o (length sheet) γ sheet on (t .s)) wd (stepOf sheet on (t .s)) (λ r ws. id⊢ 𝓤 _) (and-then ! (load ! (from ! (stop !)) (look ! 22 refl)) (and-then ! (load ! (from ! (stop !)) (look ! 20 refl)) (and-then ! (load ! (from ! (stop !)) (look ! 14 refl)) (no-more !)))) (λ ok1.
           use1 W (‵ (flft κ q) ⊛ ‵ ftrue) (id⊢ 𝓤 _) $ split ! $ move ! (1 ∷ []) $ drop ! $
-          land ! (from ! (stop !)) (init ! 10 refl (typed wd W (nextOf sheet on (t .s)) ok1 .0)) $
+          land ! (from ! (stop !)) (init ! 10 refl (typed wd W (stepOf sheet on (t .s)) ok1 .0)) $
           assigns ! (bin ! (load ! (from ! (stop !)) (look ! 12 refl)) (lit ! tt) (record { fits = fits-ys less })) (from ! (stop !)) (store ! 8 refl (tt, record { fits = fits-ys less })) $  -- _8 := mul(_6, 20u64)
           assigns ! (bin ! (load ! (from ! (fld ! refl (stop !))) (look-in ! 16 (sub ! 0 refl (whole !)))) (load ! (from ! (stop !)) (look ! 8 refl)) tt) (from ! (stop !)) (init ! 4 refl (tt, tt)) $  -- _10 := offset(_4.0, _8)
           rewrite ! 4 (λ (p : ℕ). ‵ (fat fullShare tyPtr l₁₀ 0 (vptr b′ p))) (sym (place-is 20 o′ (t .i))) refl $
           move ! (2 ∷ 3 ∷ []) $ opens-elem ev blankEvent ! tt (t .zs) _ (t .i) b′ o′ (at-ys less) (λ _.
-          assigns ! (of-opd ! (load ! (from ! (fld ! refl (stop !))) (look-in ! 10 (sub ! 0 refl (whole !))))) (from ! (hop ! (look ! 4 refl) (stop !))) (store-raw ! 0 refl (typed ev W (nextOf sheet on (t .s) .event) (wd-event (nextOf sheet on (t .s)) ok1) .0)) $  -- (*_10) := _7.0
-          closes-elem ev blankEvent ! tt (t .zs) (t .i) (nextOf sheet on (t .s) .event) b′ o′ (length ys) (t .len) room′ (at-ys less) (wd-event (nextOf sheet on (t .s)) ok1) $
-          assigns ! (of-opd ! (load ! (from ! (fld ! refl (stop !))) (look-in ! 10 (sub ! 1 refl (whole !))))) (from ! (stop !)) (store ! 14 refl (typed wk W (nextOf sheet on (t .s) .next) (wd-next (nextOf sheet on (t .s)) ok1) .0)) $  -- _5 := _7.1
+          assigns ! (of-opd ! (load ! (from ! (fld ! refl (stop !))) (look-in ! 10 (sub ! 0 refl (whole !))))) (from ! (hop ! (look ! 4 refl) (stop !))) (store-raw ! 0 refl (typed ev W (stepOf sheet on (t .s) .event) (wd-event (stepOf sheet on (t .s)) ok1) .0)) $  -- (*_10) := _7.0
+          closes-elem ev blankEvent ! tt (t .zs) (t .i) (stepOf sheet on (t .s) .event) b′ o′ (length ys) (t .len) room′ (at-ys less) (wd-event (stepOf sheet on (t .s)) ok1) $
+          assigns ! (of-opd ! (load ! (from ! (fld ! refl (stop !))) (look-in ! 10 (sub ! 1 refl (whole !))))) (from ! (stop !)) (store ! 14 refl (typed wk W (stepOf sheet on (t .s) .next) (wd-next (stepOf sheet on (t .s)) ok1) .0)) $  -- _5 := _7.1
           assigns-last ! (bin ! (load ! (from ! (stop !)) (look ! 12 refl)) (lit ! tt) (record { fits = more-fits less })) (from ! (stop !)) (store ! 12 refl (tt, record { fits = more-fits less })) $  -- _6 := add(_6, 1u64)
           move ! (3 ∷ 2 ∷ 0 ∷ 1 ∷ []) $ forget ! 4 refl $ forget ! 6 refl $ forget ! 8 refl $ forget ! 10 refl $
-          again ! Fewer At t (F.goes-on (λ i (s : Wk .Denot). Is Wk s (vals wk s) × Good sheet s) (stepsOf sheet on) ys (stepsOf sheet on (length ys) w) t (within less) (nextOf sheet on (t .s) .event) (nextOf sheet on (t .s) .next) (wd-next (nextOf sheet on (t .s)) ok1, good-next sheet on (t .s) (t .fits .1)) (steps-more sheet on (t .s) (t .m - 1))) (F.goes-on-less (λ i (s : Wk .Denot). Is Wk s (vals wk s) × Good sheet s) (stepsOf sheet on) ys (stepsOf sheet on (length ys) w) t (within less)))))
+          again ! Fewer At t (F.goes-on (λ i (s : Wk .Denot). Is Wk s (vals wk s) × Good sheet (walkAt s)) (λ (k : ℕ) (v : Wk .Denot). stepsOf sheet on k (walkAt v)) ys (stepsOf sheet on (length ys) (walkAt w)) t (within less) (stepOf sheet on (t .s) .event) (stepOf sheet on (t .s) .next) (wd-next (stepOf sheet on (t .s)) ok1, good-step sheet on (t .s) (t .fits .1)) (steps-more sheet on (t .s) (t .m - 1))) (F.goes-on-less (λ i (s : Wk .Denot). Is Wk s (vals wk s) × Good sheet (walkAt s)) (λ (k : ℕ) (v : Wk .Denot). stepsOf sheet on k (walkAt v)) ys (stepsOf sheet on (length ys) (walkAt w)) t (within less)))))
           (λ over. jumps ! $ exec ! C Λ En code-mir.t-4 (atRet En Post) $
           assigns ! (of-opd ! (unit-lit !)) (from ! (stop !)) (init ! 24 refl (tt, tt)) $  -- _0 := unit
           returns ! (look ! 24 refl) $ forget ! 6 refl $ forget ! 8 refl $ forget ! 12 refl $ forget ! 14 refl $ forget ! 16 refl $ forget ! 18 refl $ forget ! 20 refl $ forget ! 22 refl $ forget ! 24 refl $
@@ -131,7 +131,7 @@ module _ {M : Type 1} (𝓤 : URA M) (H : Heap 𝓤) (A : Atoms 𝓤) (W : Given
       body =
           assigns ! (of-opd ! (load ! (from ! (stop !)) (look ! 18 refl))) (from ! (stop !)) (init ! 14 refl (typed wk W w w-ok .0)) $  -- _5 := _3
           assigns ! (of-opd ! (lit ! tt)) (from ! (stop !)) (init ! 12 refl (tt, record { fits = lit< tt })) $  -- _6 := 0u64
-          first ! $ blocks ! $ loops ! 𝓣 Fewer (F.Fewer-wf (λ i (s : Wk .Denot). Is Wk s (vals wk s) × Good sheet s) (stepsOf sheet on) ys (stepsOf sheet on (length ys) w)) At turns (F.starts (λ i (s : Wk .Denot). Is Wk s (vals wk s) × Good sheet s) (stepsOf sheet on) ys (stepsOf sheet on (length ys) w) w (w-ok, asked) refl)
+          first ! $ blocks ! $ loops ! 𝓣 Fewer (F.Fewer-wf (λ i (s : Wk .Denot). Is Wk s (vals wk s) × Good sheet (walkAt s)) (λ (k : ℕ) (v : Wk .Denot). stepsOf sheet on k (walkAt v)) ys (stepsOf sheet on (length ys) (walkAt w))) At turns (F.starts (λ i (s : Wk .Denot). Is Wk s (vals wk s) × Good sheet (walkAt s)) (λ (k : ℕ) (v : Wk .Denot). stepsOf sheet on k (walkAt v)) ys (stepsOf sheet on (length ys) (walkAt w)) w (w-ok, asked) refl)
 
     walk : (𝓣 : Tables 𝓤 H) (known-stream-step : Triple 𝓤 (𝓣 .C #sheet·stream·step) (StreamStep′ 𝓤 H A mem run′)) → ent 𝓤 (onEntry 𝓤 H A fill.signature (κ, (κ′, tt)) (q, (q′, tt)) x vs) (WpFn 𝓤 H (𝓣 .C) (𝓣 .Λ) code.function (sliceVal (b, o) (length sheet) ∷ bool-data .val on ∷ wk .val w ∷ sliceVal (b′, o′) (length ys) ∷ []) Post)
     walk 𝓣 known-stream-step =

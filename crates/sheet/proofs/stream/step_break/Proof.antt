@@ -7,6 +7,7 @@ use lib.ListN.{drop}
 use denote.Ref.{now}
 use Rattle.tokenizer.specs.Lines.{endAt}
 use Rattle.tokenizer.specs.Moves.{lineAt, after}
+use Rattle.sheet.specs.Stream.{walkedOf}
 use Rattle.sheet.proofs.From.{is-more, is-last}
 use Rattle.sheet.proofs.Coming.{break-line}
 use borrow.Author.Needs.{needs}
@@ -28,6 +29,9 @@ enum-known-q c = search needs
 enter-requires : tie.Need-enter-requires
 enter-requires c κs = search needs
 
+unnamed-requires : tie.Need-unnamed-requires
+unnamed-requires c κs = search needs
+
 returns : tie.Need-returns
 returns c =
     let r = c .before .before .before in
@@ -36,10 +40,10 @@ returns c =
 
 returns-2 : tie.Need-returns-2
 returns-2 c =
-    let r = c .before .before .before .before in
+    let r = c .before .before .before .before .before in
     let b = r .before .before in
-    let n = is-more (now (b .args .s)) (b .args .e) _ (sym (c .before .before .q .given .1) ∙ r .line-after .ensures) in
-    rw (c .enter .ensures, n .0) (break-line (now (b .args .s)) false (b .args .e) (b .pre .0) (b .pre .1) (n .1))
+    let n = is-more (now (b .args .s)) (b .args .e) _ (sym (c .before .before .before .q .given .1) ∙ r .line-after .ensures) in
+    rw (c .before .enter .ensures, c .unnamed .ensures, n .0) (ap walkedOf (break-line (now (b .args .s)) false (b .args .e) (b .pre .0) (b .pre .1) (n .1)))
 
 pub step-break-spec : {M : Type 1} → statement M
 step-break-spec =
@@ -50,5 +54,6 @@ step-break-spec =
     no-more-requires
     enum-known-q
     enter-requires
+    unnamed-requires
     returns
     returns-2)

@@ -17,6 +17,9 @@ enum-known-q c = search needs
 enter-requires : tie.Need-enter-requires
 enter-requires c κs = search needs
 
+unnamed-requires : tie.Need-unnamed-requires
+unnamed-requires c κs = search needs
+
 enum-told : tie.Need-enum-told
 enum-told c = search needs
 
@@ -25,9 +28,9 @@ no-more-requires c κs = search needs
 
 returns : tie.Need-returns
 returns c =
-    let r = c .before .before .before .before in
-    let f = rw (c .before .before .q .given .1) at (r .next-head .ensures) in
-    rw (f .tables, c .enter .ensures)
+    let r = c .before .before .before .before .before in
+    let f = rw (c .before .before .before .q .given .1) at (r .next-head .ensures) in
+    rw (f .tables, c .before .enter .ensures, c .unnamed .ensures)
 
 returns-2 : tie.Need-returns-2
 returns-2 c =
@@ -42,6 +45,7 @@ step-seek-spec =
     next-head-requires
     enum-known-q
     enter-requires
+    unnamed-requires
     enum-told
     no-more-requires
     returns
