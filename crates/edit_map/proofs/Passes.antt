@@ -8,15 +8,16 @@ use native.Mathlib.Omega.{arith}
 use lib.Dec.{eqb}
 use lib.ListN.{length, drop, drop-of-length-le}
 use Rattle.tokenizer.specs.declared.event.Event.{Event}
+use Rattle.tokenizer.specs.Slots.{eventAt}
 use Rattle.edit_map.specs.declared.resolve_accept.Reading.{Reading}
 use Rattle.edit_map.specs.declared.resolve_step.Cursor.{Cursor}
 use Rattle.edit_map.specs.declared.resolve_look.Look.{Look}
 use Rattle.edit_map.specs.declared.infer_step.Aligning.{Aligning}
-use Rattle.edit_map.specs.Base.{most, plusOf, onTo}
+use Rattle.edit_map.specs.Base.{most, plusOf, onTo, placedAt}
 use Rattle.edit_map.specs.Accept.{readStep, readAll}
 use Rattle.edit_map.specs.Cursors.{asks, lookStart, lookStep, lookAll, lookOf, stepAt, stepped, cursorAfter}
 use Rattle.edit_map.specs.AlignSteps.{alignStep, fresh, settled, stops, scanAll, scanOf, alignsFrom}
-use Rattle.edit_map.proofs.Steps.{off-stays}
+use Rattle.edit_map.proofs.Steps.{off-stays, placed-is}
 use Rattle.edit_map.proofs.Scanning.{Scans}
 
 -- a record more is read, and none
@@ -32,6 +33,10 @@ read-none r = refl
 pub step-more : (es : List Event) (n : ℕ) (c : Cursor) → stepped es (suc n) c ≡ stepAt es c .event ∷ stepped es n (stepAt es c .next)
 unfolding stepped
 step-more es n c = refl
+
+-- the record that a step gives, at the point of the record at hand
+pub placed-more : (es : List Event) (n : ℕ) (c : Cursor) → stepped es (suc n) c ≡ placedAt (eventAt es (c .at)) (stepAt es c .event) ∷ stepped es n (stepAt es c .next)
+placed-more es n c = step-more es n c ∙ ap (λ (e : Event). e ∷ stepped es n (stepAt es c .next)) (sym (placed-is es c))
 
 pub step-none : (es : List Event) (c : Cursor) → stepped es 0 c ≡ []
 unfolding stepped
@@ -68,13 +73,13 @@ pub look-scans : Scans (λ (l : Look). not (l .on)) lookStep lookAll
 unfolding lookAll
 look-scans = record { none = λ l. refl; more = λ l e es h. refl; stays = λ l es h. off-stays l es (not-not (l .on) h) }
 
-pub look-starts : (es : List Event) (c : Cursor) (this : Event) → lookOf es c this ≡ lookAll lookStart (drop (onTo (not (asks (c .mode) this)) (plusOf (c .at) 2) (length es)) es)
+pub look-starts : (es : List Event) (c : Cursor) (this : Event) → lookOf es c this ≡ lookAll (lookStart this) (drop (onTo (not (asks (c .mode) this)) (plusOf (c .at) 2) (length es)) es)
 unfolding lookAll
 look-starts es c this = go (asks (c .mode) this)
   where
-    go : (b : Bool) → cond b (lookAll lookStart (drop (plusOf (c .at) 2) es)) lookStart ≡ lookAll lookStart (drop (onTo (not b) (plusOf (c .at) 2) (length es)) es)
+    go : (b : Bool) → cond b (lookAll (lookStart this) (drop (plusOf (c .at) 2) es)) (lookStart this) ≡ lookAll (lookStart this) (drop (onTo (not b) (plusOf (c .at) 2) (length es)) es)
     go true = refl
-    go false = ap (lookAll lookStart) (sym (drop-of-length-le es {i = length es} (omega arith)))
+    go false = ap (lookAll (lookStart this)) (sym (drop-of-length-le es {i = length es} (omega arith)))
 
 -- the alignments
 pub align-scans : (each : Bool) → Scans (stops each) alignStep (scanAll each)

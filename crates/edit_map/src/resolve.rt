@@ -3,12 +3,13 @@ use crate::resolve_accept::Reading;
 use crate::resolve_accept::accept_start;
 use crate::resolve_accept::accept_step;
 use crate::resolve_accept::is_accepted;
-use crate::resolve_base::plus;
+use crate::resolve_base::placed_at;
 use crate::resolve_look::Look;
 use crate::resolve_look::look_first;
 use crate::resolve_look::look_next;
 use crate::resolve_look::look_start;
 use crate::resolve_look::look_step;
+use crate::resolve_look::next_first;
 use crate::resolve_step::Cursor;
 use crate::resolve_step::Stepped;
 use crate::resolve_step::cursor_at;
@@ -93,7 +94,7 @@ fn look_ahead(list: &[Event], c: Cursor, this: Event) -> Look
     ensures { λ r. ⌜ r ≡ lookOf (now (list .entry)) c this ⌝ }
 {
     let n = list.len();
-    let mut cur = look_start();
+    let mut cur = look_start(this);
     let mut i = look_first(c.mode, this, c.at, n);
     while i < n {
         cur = look_step(cur, list[i]);
@@ -108,7 +109,8 @@ fn step_at(list: &[Event], c: Cursor) -> Stepped
     ensures { λ r. ⌜ r ≡ stepAt (now (list .entry)) c ⌝ }
 {
     let this = at_or_blank(list, c.at);
-    let j = plus(c.at, 1);
+    let n = list.len();
+    let j = next_first(c.mode, c.at, n);
     let next = at_or_blank(list, j);
     let look = look_ahead(list, c, this);
     resolve_step(c, this, next, look)
@@ -124,7 +126,9 @@ fn fill_results(list: &[Event], c: Cursor, results: &mut [Event]) -> Cursor
     let mut i = 0;
     while i < n {
         let s = step_at(list, cur);
-        results[i] = s.event;
+        let o = at_or_blank(list, cur.at);
+        let e = placed_at(o, s.event);
+        results[i] = e;
         cur = s.next;
         i += 1;
     }
