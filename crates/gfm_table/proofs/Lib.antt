@@ -9,5 +9,6 @@ pub mod Fillers
 pub mod Answers
 pub mod Coming
 pub mod Plans
+pub mod Passing
 pub mod Known
 pub mod Types

@@ -14,6 +14,7 @@ ghost use Rattle.gfm_table.specs.Calls.{headOf, headSlots, rowOf, rowSlo
 pub mod calls;
 pub mod delimiter;
 pub mod heads;
+pub mod pieces;
 pub mod states;
 pub mod stream;
 
