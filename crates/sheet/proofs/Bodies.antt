@@ -61,7 +61,7 @@ module _ (s : List ℕ) (p : Point) where
       rows-blank on = ap (rows kindOf on) next-lines ∙ rw b (sym (heads-at-blank s (after s p) on b))
 
     module _ (b : blank kindOf (restOf s (after s p)) ≡ false) where
-      body-row : bodyEvents s p ≡ 4 + 2 * length (rowPieces kindOf false (restOf s (after s p))) + bodyEvents s (after s p)
+      pub body-row : bodyEvents s p ≡ 4 + 2 * length (rowPieces kindOf false (restOf s (after s p))) + bodyEvents s (after s p)
       unfolding bodyRows rawBody
       body-row =
           let q = after s p in
@@ -76,11 +76,3 @@ module _ (s : List ℕ) (p : Point) where
       pub rows-row : (on : Bool) → rows kindOf on (linesPast s p) ≡ rows kindOf on (linesPast s (after s p))
       unfolding heads
       rows-row on = ap (rows kindOf on) next-lines ∙ rw b
-
--- after a row is read, at its end
-module _ (s : List ℕ) (p q : Point) (e : q ≡ past (after s p) (restOf s (after s p))) (z : lineAt s p .end ≡ 0 → ⊥) (b : blank kindOf (restOf s (after s p)) ≡ false) where
-  pub body-on : bodyEvents s p ≡ 4 + 2 * length (rowPieces kindOf false (restOf s (after s p))) + bodyEvents s q
-  body-on = omega (arith, body-row s p z b, body-stop s (after s p), ap (bodyEvents s) e)
-
-  pub rows-on : (on : Bool) → rows kindOf on (linesPast s q) ≡ rows kindOf on (linesPast s p)
-  rows-on on = ap (λ (k : Point). rows kindOf on (linesPast s k)) e ∙ ap (rows kindOf on) (stop-past s (after s p)) ∙ sym (rows-row s p z b on)

@@ -1,13 +1,14 @@
 // The counts of a sheet: tables, raw events and alignments, in one pass.
 use crate::seek::Next;
+use crate::seek::line_behind;
 use crate::seek::next_head;
 use gfm_table::delimiter::delimiter_count;
 use gfm_table::heads::Opened;
-use gfm_table::states::row;
+use gfm_table::pieces::pieces_from;
 use tokenizer::event::Point;
 use tokenizer::lines::Further;
 use tokenizer::lines::is_blank;
-use tokenizer::lines::line_after;
+use tokenizer::lines::line_stop;
 ghost use mathlib.Core.Path.{_≡_};
 ghost use Prim.Native.Nat.{_≤_};
 ghost use lib.ListN.{length};
@@ -35,9 +36,10 @@ pub fn body_after(s: &[u8], p: Point) -> Read
     ensures { λ r. ⌜ Reads (now (s .entry)) p (bodyEvents (now (s .entry)) p) r ⌝ }
 {
     let mut q = p;
+    let mut e = line_stop(s, p.index as usize);
     let mut n: u32 = 0;
     loop {
-        match line_after(s, q) {
+        match line_behind(s, q, e) {
             Further::Last => {
                 return Read {
                     events: n,
@@ -51,9 +53,10 @@ pub fn body_after(s: &[u8], p: Point) -> Read
                         next: Further::More(t),
                     };
                 }
-                let r = row(s, t);
+                let r = pieces_from(s, t.index as usize);
                 n = n + (4 + 2 * r.count);
-                q = r.at;
+                e = r.end;
+                q = t;
             }
         }
     }

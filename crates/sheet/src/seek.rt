@@ -6,7 +6,11 @@ use tokenizer::event::Point;
 use tokenizer::lines::Further;
 use tokenizer::lines::is_blank;
 use tokenizer::lines::line_after;
-ghost use Rattle.tokenizer.specs.Moves.{Inside};
+use tokenizer::lines::line_end;
+ghost use mathlib.Core.Path.{_≡_};
+ghost use Prim.Native.Nat.{_+_};
+ghost use lib.ListN.{length};
+ghost use Rattle.tokenizer.specs.Moves.{restOf, furtherOf, Inside};
 ghost use Rattle.sheet.specs.From.{AtLine, Finds, Onward};
 
 // A head: where its line starts, and what it opens.
@@ -36,6 +40,23 @@ pub fn next_head(s: &[u8], p: Point, on: bool) -> Next
             },
         }
     }
+}
+
+// The line after the one of a point whose bytes end at a place.
+pub fn line_behind(s: &[u8], p: Point, end: usize) -> Further
+    requires { ⌜ Inside (now s) p × (end ≡ p .index + length (restOf (now s) p)) ⌝ }
+    ensures { λ r. ⌜ r ≡ furtherOf (now (s .entry)) p ⌝ }
+{
+    let n = line_end(s, end);
+    if n == 0 {
+        return Further::Last;
+    }
+    Further::More(Point {
+        line: p.line + 1,
+        column: 1,
+        index: end as u32 + n,
+        vs: 0,
+    })
 }
 
 // The blank line that ends the body after a line of a table, if there is one.
