@@ -43,7 +43,11 @@ attemptOf s min max p =
     (record { right = true; feed = feedAt s (spacesPast s max p) })
     (record { right = false; feed = feedAt s p })
 
--- whether one more unit of whitespace is to be passed, where `left` may be
+-- whether no whitespace is read behind at most n units of it
+abbrev pub spaceEnds : List ℕ → ℕ → Point → Bool
+spaceEnds s n p = not (spaceAt s (spacesPast s n p))
+
+-- whether one more unit of whitespace is to be passed, where at most `left` may be
 abbrev pub spaceAhead : Feed → ℕ → Bool
 spaceAhead f left = not (eqb left 0) && isSpaceByte (f .current)
 

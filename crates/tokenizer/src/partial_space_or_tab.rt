@@ -1,9 +1,11 @@
-// Runs of spaces and tabs with a least and a greatest number of units.
+// Runs of spaces and tabs with a least and a greatest number of units, by value and over a feed that is lent.
+use crate::event::Point;
 use crate::feed::Byte;
 use crate::feed::Feed;
 use crate::kinds::kind;
 ghost use mathlib.Core.Path.{_≡_};
-ghost use Rattle.tokenizer.specs.Spaces.{isSpaceByte, spaceAhead, attemptOf, Reading};
+ghost use Rattle.tokenizer.specs.Spaces.{isSpaceByte, spaceAhead, attemptOf, spaceEnds, Reading};
+ghost use Rattle.tokenizer.specs.Feed.{Fed};
 
 // Whether an attempt was right, with the feed behind it, or with the copy that was kept.
 pub struct Attempt {
@@ -63,4 +65,14 @@ pub fn space_or_tab_min_max(s: &[u8], f: &mut Feed, min: usize, max: usize) -> b
     let tried = space_or_tab_attempt(s, *f, min, max);
     *f = tried.feed;
     tried.right
+}
+
+// Whether no whitespace is read behind at most `max` units of it.
+pub fn space_ends(s: &[u8], p: Point, max: usize) -> bool
+    requires { ⌜ Fed (now s) p ⌝ }
+    ensures { λ r. ⌜ r ≡ spaceEnds (now (s .entry)) max p ⌝ }
+{
+    let mut f = Feed::at(s, p);
+    space_or_tab_min_max(s, &mut f, 0, max);
+    !is_space(f.current)
 }
