@@ -160,13 +160,15 @@ pub fn marked_from(s: &[u8], p: Point) -> bool
     }
 }
 
-// Whether a line's indent is permitted.
+// Whether a line's indent is permitted. Most lines have none.
 pub fn permits(s: &[u8], p: Point, on: bool) -> bool
     requires { ⌜ Inside (now s) p × (p .column ≡ 1) ⌝ }
     ensures { λ r. ⌜ r ≡ permitted kindOf on (restOf (now (s .entry)) p) ⌝ }
 {
     if on {
-        return space_ends(s, p, Point::INDENT_CAP);
+        if ahead(s, p) == 1 {
+            return space_ends(s, p, Point::INDENT_CAP);
+        }
     }
     true
 }
