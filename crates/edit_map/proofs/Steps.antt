@@ -5,13 +5,14 @@ use mathlib.Core.Path.{_≡_, refl, sym, ap, _∙_, subst}
 use mathlib.Core.List.{List, [], _∷_}
 use mathlib.Core.Bool.{Bool, true, false, cond, _||_, _&&_, not, true≢false}
 use lib.Dec.{eqb, leb, leb·zero, leb·suc-zero, leb·suc-suc}
-use lib.ListN.{drop, length, length-drop}
+use lib.ListN.{drop, length, length-drop, replicate}
 use lib.Seq.{drop-drop}
 use native.Mathlib.Omega.{arith}
 use borrow.Author.Tests.{eqb-true, leb-false, le-leb}
 use Rattle.tokenizer.specs.declared.event.Event.{Event}
-use Rattle.tokenizer.specs.Slots.{eventAt, slotsOf}
-use Rattle.tokenizer.specs.Events.{GfmTableCellDivider, SpaceOrTab}
+use Rattle.tokenizer.specs.Slots.{eventAt, slotsOf, clearedFrom}
+use Rattle.tokenizer.proofs.Blanks.{slots-none, cleared-all}
+use Rattle.tokenizer.specs.Events.{GfmTableCellDivider, SpaceOrTab, blankEvent}
 use Rattle.edit_map.specs.declared.resolve_turn.Phase.{Phase}
 use Rattle.edit_map.specs.declared.resolve_turn.Phase.the-variants.{Out, Head, Row, Cell, Piece, Exit, Text, Copy, Leave, RowExit, HeadExit, End, EndExit, Open, BodyLeave, TableLeave}
 use Rattle.edit_map.specs.declared.resolve_base.Part.{Part}
@@ -22,12 +23,12 @@ use Rattle.edit_map.specs.declared.resolve_look.Look.{Look}
 use Rattle.edit_map.specs.declared.resolve_step.Cursor.{Cursor}
 use Rattle.edit_map.specs.Base.{most, plusOf, onTo, placedAt, isRowName, isTextName}
 use Rattle.edit_map.specs.Turns.{isOut, goesOn, plain, pieceTurn, rowExitTurn, endExitTurn, turnIn, turnOf}
-use Rattle.edit_map.proofs.Stream.{first, rest, onward, aheadOf, solidOf, turnAt, stream}
-use Rattle.edit_map.specs.Cursors.{moreOf, moves, lookStart, lookStep, lookAll, isPiece, asks, reads, nextPlace, resolveStep, lookOf, stepAt, stepped, cursorAt, cursorAfter}
+use Rattle.edit_map.proofs.Stream.{first, rest, onward, aheadOf, solidOf, turnAt}
+use Rattle.edit_map.specs.Cursors.{moreOf, moves, lookStep, lookAll, isPiece, asks, reads, nextPlace, resolveStep, lookOf, stepAt, stepped, cursorAt, cursorAfter}
 use Rattle.edit_map.proofs.Gives.{Gives, none, more}
 use Rattle.edit_map.specs.Tables.{Table, rawTables, resolvedTables}
 use Rattle.edit_map.specs.Raw.{AreTables}
-use Rattle.edit_map.proofs.Streams.{tables-give, streams}
+use Rattle.edit_map.proofs.Streams.{tables-give}
 use Rattle.edit_map.proofs.Bools.{or-true, or-false}
 
 -- the look ahead at a cursor
@@ -138,6 +139,17 @@ stays-in TableLeave m this next a s = refl
 pub placed-is : (es : List Event) (c : Cursor) → placedAt (eventAt es (c .at)) (stepAt es c .event) ≡ stepAt es c .event
 unfolding resolveStep
 placed-is es c = stays-in (c .mode .phase) (c .mode) (eventAt es (c .at)) (eventAt es (nextPlace es c)) (lookAt es c .ahead) (lookAt es c .solid)
+
+-- ## As many slots as there were
+
+cond-length : (b : Bool) (xs ys : List Event) (n : ℕ) → length xs ≡ n → length ys ≡ n → length (cond b xs ys) ≡ n
+cond-length true xs ys n p q = p
+cond-length false xs ys n p q = q
+
+pub as-many : (es : List Event) (c : Cursor) (ys : List Event) → length (stepped es c ys) ≡ length ys
+unfolding stepped
+as-many es c [] = refl
+as-many es c (y ∷ ys) = ap suc (cond-length (eqb (stepAt es c .gave) 0) ys (stepped es (stepAt es c .next) ys) (length ys) refl (as-many es (stepAt es c .next) ys))
 
 -- ## Reading at a place
 
@@ -405,26 +417,41 @@ module _ (es : List Event) (fits : length es ≤ most) where
   moves-on : {c : Cursor} {m : Mode} {l : List Event} → Stands c m l → Stands (moves c (turnAt m l)) (turnAt m l .mode) (drop (turnAt m l .by) l)
   moves-on {c} {m} {l} s = record { mode = refl; place = drop-plus es (c .at) (turnAt m l .by) fits ∙ ap (λ (k : List Event). drop (turnAt m l .by) k) (s .place) }
 
-  -- the steps give what the stream gives
-  pub steps : (n : ℕ) {c : Cursor} {m : Mode} {l : List Event} → Stands c m l → stepped es n c ≡ stream n m l
-  unfolding stepped stream resolveStep
-  steps zero s = refl
-  steps (suc n) {c} {m} {l} s =
-      ap (λ (t : Turn). t .event ∷ stepped es n (moves c t)) (turns s) ∙ ap (λ (k : List Event). turnAt m l .event ∷ k) (steps n (moves-on s))
+  -- ## The slots
+
+  fill-step : (y : Event) (ys : List Event) {c : Cursor} {m : Mode} {l : List Event} → Stands c m l → stepped es c (y ∷ ys) ≡ turnAt m l .event ∷ cond (eqb (turnAt m l .gave) 0) ys (stepped es (moves c (turnAt m l)) ys)
+  unfolding stepped resolveStep
+  fill-step y ys {c} s = ap (λ (t : Turn). t .event ∷ cond (eqb (t .gave) 0) ys (stepped es (moves c t) ys)) (turns s)
+
+  -- where there are slots for all records that are to be given, these stand in them, once the slots behind are cleared
+  pub fills : {m : Mode} {l out : List Event} → Gives m l out (plain Out Header) [] → {c : Cursor} → Stands c m l → (ys : List Event) → length out ≤ length ys → clearedFrom (length out) (stepped es c ys) ≡ slotsOf (length ys) out
+  unfolding clearedFrom slotsOf
+  fills none {c} s ys h = cleared-all (stepped es c ys) ∙ ap (λ (k : ℕ). replicate k blankEvent) (as-many es c ys) ∙ sym (slots-none (length ys))
+  fills (more e g) s [] h = absurd (omega arith)
+  fills (more {m = m} {es = l} {out = out} e g) {c} s (y ∷ ys) h =
+      ap (clearedFrom (suc (length out))) (fill-step y ys s ∙ ap (λ (k : ℕ). turnAt m l .event ∷ cond (eqb k 0) ys (stepped es (moves c (turnAt m l)) ys)) e)
+      ∙ ap (λ (r : List Event). turnAt m l .event ∷ r) (fills g (moves-on s) ys (omega arith))
 
   -- ## The end, and the number of records given
 
-  after-step : (n : ℕ) {c : Cursor} {m : Mode} {l : List Event} → Stands c m l → cursorAfter es (suc n) c ≡ cursorAfter es n (moves c (turnAt m l))
+  after-step : (n : ℕ) {c : Cursor} {m : Mode} {l : List Event} → Stands c m l → cursorAfter es (suc n) c ≡ cond (eqb (turnAt m l .gave) 0) (moves c (turnAt m l)) (cursorAfter es n (moves c (turnAt m l)))
   unfolding cursorAfter resolveStep
-  after-step n {c} s = ap (λ (t : Turn). cursorAfter es n (moves c t)) (turns s)
+  after-step n {c} s = ap (λ (t : Turn). cond (eqb (t .gave) 0) (moves c t) (cursorAfter es n (moves c t))) (turns s)
 
-  -- n steps after the end
+  after-one : (n : ℕ) {c : Cursor} {m : Mode} {l : List Event} → Stands c m l → turnAt m l .gave ≡ 1 → cursorAfter es (suc n) c ≡ cursorAfter es n (moves c (turnAt m l))
+  after-one n {c} {m} {l} s e = after-step n s ∙ ap (λ (k : ℕ). cond (eqb k 0) (moves c (turnAt m l)) (cursorAfter es n (moves c (turnAt m l)))) e
+
+  ended : {c : Cursor} → Stands c (plain Out Header) [] → finished es c ≡ true
+  unfolding resolveStep
+  ended s = ap (λ (t : Turn). eqb (t .gave) 0) (turns s)
+
+  -- n slots after the end
   idles : (n : ℕ) {c : Cursor} → Stands c (plain Out Header) [] → (finished es (cursorAfter es n c) ≡ true) × (cursorAfter es n c .given ≡ c .given)
-  unfolding cursorAfter resolveStep
-  idles zero s = (ap (λ (t : Turn). eqb (t .gave) 0) (turns s), refl)
-  idles (suc n) {c} s = rw (after-step n s) (idles n (moves-on s) .0, idles n (moves-on s) .1 ∙ plus-none (c .given))
+  unfolding cursorAfter
+  idles zero s = (ended s, refl)
+  idles (suc n) {c} s = rw (after-step n s) (ended (moves-on s), plus-none (c .given))
 
-  -- n steps where some records are to be given
+  -- n slots where some records are to be given
   counts : (n : ℕ) {m : Mode} {l out : List Event} → Gives m l out (plain Out Header) [] → {c : Cursor} → Stands c m l → c .given + n ≤ most
       → (finished es (cursorAfter es n c) ≡ leb (length out) n) × (length out ≤ n → cursorAfter es n c .given ≡ c .given + length out)
   unfolding cursorAfter resolveStep
@@ -433,16 +460,16 @@ module _ (es : List Event) (fits : length es ≤ most) where
   counts (suc n) (more {m = m} {es = l} {out = out} e g) {c} s h =
       let one : plusOf (c .given) (turnAt m l .gave) ≡ c .given + 1 = rw e (plus-fits (c .given) 1 (omega arith)) in
       let ih = counts n g (moves-on s) (rw one (omega arith)) in
-      rw (after-step n s) (ih .0 ∙ sym (leb·suc-suc (length out) n), λ k. ih .1 (omega arith) ∙ rw one (omega arith))
+      rw (after-one n s e) (ih .0 ∙ sym (leb·suc-suc (length out) n), λ k. ih .1 (omega arith) ∙ rw one (omega arith))
 
 -- ## The resolver's stream: for a list of raw tables, what it gives, when it is done, and how many records it gave
-pub record Resolves (es out : List Event) (n : ℕ) : Type 0 where
-  pub records : stepped es n (cursorAt 0) ≡ slotsOf n out
-  pub done : finished es (cursorAfter es n (cursorAt 0)) ≡ leb (length out) n
-  pub count : length out ≤ n → cursorAfter es n (cursorAt 0) .given ≡ length out
+pub record Resolves (es out ys : List Event) : Type 0 where
+  pub records : length out ≤ length ys → clearedFrom (length out) (stepped es (cursorAt 0) ys) ≡ slotsOf (length ys) out
+  pub done : finished es (cursorAfter es (length ys) (cursorAt 0)) ≡ leb (length out) (length ys)
+  pub count : length out ≤ length ys → cursorAfter es (length ys) (cursorAt 0) .given ≡ length out
 
-pub resolves : {ts : List Table} → AreTables ts → length (rawTables ts) ≤ most → (n : ℕ) → n ≤ most → Resolves (rawTables ts) (resolvedTables ts) n
-resolves {ts} h fits n small =
+pub resolves : {ts : List Table} → AreTables ts → length (rawTables ts) ≤ most → (ys : List Event) → length ys ≤ most → Resolves (rawTables ts) (resolvedTables ts) ys
+resolves {ts} h fits ys small =
     let s : Stands (rawTables ts) fits (cursorAt 0) (plain Out Header) (rawTables ts) = record { mode = refl; place = refl } in
-    let c = counts (rawTables ts) fits n (tables-give h) s (omega arith) in
-    record { records = steps (rawTables ts) fits n s ∙ streams n h; done = c .0; count = λ k. c .1 k ∙ omega arith }
+    let c = counts (rawTables ts) fits (length ys) (tables-give h) s (omega arith) in
+    record { records = fills (rawTables ts) fits (tables-give h) s ys; done = c .0; count = λ k. c .1 k ∙ omega arith }

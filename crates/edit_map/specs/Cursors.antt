@@ -112,12 +112,12 @@ moreOf c this = cond (isOut (c .mode .phase) && eqb (this .kind) 0) 0 1
 abbrev pub cursorAt : ℕ → Cursor
 cursorAt i = record { mode = plain Out Header; at = i; given = 0 }
 
--- the records that n steps give
-unfoldable pub stepped : List Event → ℕ → Cursor → List Event
-stepped es zero c = []
-stepped es (suc n) c = stepAt es c .event ∷ stepped es n (stepAt es c .next)
+-- slots filled by steps, one each, up to the step that gives no record; those behind it stay
+unfoldable pub stepped : List Event → Cursor → List Event → List Event
+stepped es c [] = []
+stepped es c (y ∷ ys) = stepAt es c .event ∷ cond (eqb (stepAt es c .gave) 0) ys (stepped es (stepAt es c .next) ys)
 
--- the cursor after n steps
+-- the cursor after n slots
 unfoldable pub cursorAfter : List Event → ℕ → Cursor → Cursor
 cursorAfter es zero c = c
-cursorAfter es (suc n) c = cursorAfter es n (stepAt es c .next)
+cursorAfter es (suc n) c = cond (eqb (stepAt es c .gave) 0) (stepAt es c .next) (cursorAfter es n (stepAt es c .next))

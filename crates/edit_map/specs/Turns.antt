@@ -3,7 +3,7 @@ use Prim.Native.Nat.{ℕ, _-_}
 use mathlib.Core.Bool.{Bool, true, false, cond, _||_, _&&_, not}
 use lib.Dec.{eqb}
 use Rattle.tokenizer.specs.declared.event.Event.{Event}
-use Rattle.tokenizer.specs.Events.{Data, GfmTable, GfmTableBody, GfmTableCell, GfmTableCellDivider, GfmTableCellText, GfmTableDelimiterCell, GfmTableDelimiterCellValue, GfmTableDelimiterFiller, GfmTableDelimiterMarker, GfmTableDelimiterRow, GfmTableRow, LineEnding, SpaceOrTab, enter, leave, linked, pointOf}
+use Rattle.tokenizer.specs.Events.{GfmTable, GfmTableBody, GfmTableCell, GfmTableCellDivider, GfmTableCellText, GfmTableDelimiterCell, GfmTableDelimiterCellValue, LineEnding, SpaceOrTab, enter, leave, linked, pointOf}
 use Rattle.edit_map.specs.declared.resolve_turn.Phase.{Phase}
 use Rattle.edit_map.specs.declared.resolve_turn.Phase.the-variants.{Out, Head, Row, Cell, Piece, Exit, Text, Copy, Leave, RowExit, HeadExit, End, EndExit, Open, BodyLeave, TableLeave}
 use Rattle.edit_map.specs.declared.resolve_base.Part.{Part}

@@ -14,6 +14,7 @@ use crate::resolve_step::Cursor;
 use crate::resolve_step::Stepped;
 use crate::resolve_step::cursor_at;
 use crate::resolve_step::more_at;
+use crate::resolve_step::next_slot;
 use crate::resolve_step::resolve_step;
 use tokenizer::event::Event;
 use tokenizer::slots::at_or_blank;
@@ -54,13 +55,13 @@ fn stream_of(r: Reading) -> Cursor
 }
 
 // Questions 10 and 12, where the stream gave so many events, and its next step one more or none.
-fn judge(r: Reading, given: usize, gave: usize, n: usize) -> Judged
-    ensures { λ j. ⌜ j ≡ judgeOf r given gave n ⌝ }
+fn judge(r: Reading, given: usize, gave: usize) -> Judged
+    ensures { λ j. ⌜ j ≡ judgeOf r given gave ⌝ }
 {
     if is_accepted(r) {
         if gave == 0 {
             return Judged {
-                keep: n,
+                keep: given,
                 answer: Resolved::Accepted(given),
             };
         }
@@ -70,7 +71,7 @@ fn judge(r: Reading, given: usize, gave: usize, n: usize) -> Judged
         };
     }
     Judged {
-        keep: n,
+        keep: 0,
         answer: Resolved::Refused(10),
     }
 }
@@ -116,10 +117,10 @@ fn step_at(list: &[Event], c: Cursor) -> Stepped
     resolve_step(c, this, next, look)
 }
 
-// As many steps as there are slots.
+// A step for each slot, up to the step that gives no record.
 fn fill_results(list: &[Event], c: Cursor, results: &mut [Event]) -> Cursor
     ensures { λ r. ⌜ (r ≡ cursorAfter (now (list .entry)) (length (now (results .entry))) c)
-        × (now (results .exit) ≡ stepped (now (list .entry)) (length (now (results .entry))) c) ⌝ }
+        × (now (results .exit) ≡ stepped (now (list .entry)) c (now (results .entry))) ⌝ }
 {
     let n = results.len();
     let mut cur = c;
@@ -130,7 +131,8 @@ fn fill_results(list: &[Event], c: Cursor, results: &mut [Event]) -> Cursor
         let e = placed_at(o, s.event);
         results[i] = e;
         cur = s.next;
-        i += 1;
+        let k = next_slot(s.gave, i, n);
+        i = k;
     }
     cur
 }
@@ -140,13 +142,12 @@ pub fn resolve(list: &[Event], results: &mut [Event]) -> Resolved
     ensures { λ r. ⌜ (r ≡ resolveAnswer (now (list .entry)) (length (now (results .entry))))
         × (now (results .exit) ≡ resolveSlots (now (list .entry)) (length (now (results .entry)))) ⌝ }
 {
-    let n = results.len();
     let r = accept(list);
     let c = stream_of(r);
     let last = fill_results(list, c, results);
     let this = at_or_blank(list, last.at);
     let more = more_at(last, this);
-    let j = judge(r, last.given, more, n);
+    let j = judge(r, last.given, more);
     clear_from(results, j.keep);
     j.answer
 }
