@@ -1,4 +1,6 @@
 // The next head of a sheet, and the end of a table's body.
+use gfm_table::delimiter::Values;
+use gfm_table::delimiter::head_delimiter_start;
 use gfm_table::heads::Answer;
 use gfm_table::heads::Opened;
 use gfm_table::heads::head_at;
@@ -10,13 +12,24 @@ use tokenizer::lines::line_end;
 ghost use mathlib.Core.Path.{_≡_};
 ghost use Prim.Native.Nat.{_+_};
 ghost use lib.ListN.{length};
-ghost use Rattle.tokenizer.specs.Moves.{restOf, furtherOf, Inside};
-ghost use Rattle.sheet.specs.From.{AtLine, Finds, Onward};
+ghost use Rattle.tokenizer.specs.Moves.{restOf, after, furtherOf, Inside};
+ghost use Rattle.sheet.specs.From.{AtLine, Tried, Finds, Onward};
 
 // A head: where its line starts, and what it opens.
 pub enum Next {
     Head(Point, Opened),
     Nothing,
+}
+
+// A head at a line. It is tried only where the next line, which starts at d, is a delimiter row: few lines are.
+pub fn head_above(s: &[u8], p: Point, d: Point, on: bool) -> Answer
+    requires { ⌜ AtLine (now s) p × AtLine (now s) d × (d ≡ after (now s) p) ⌝ }
+    ensures { λ r. ⌜ Tried (now (s .entry)) on p r ⌝ }
+{
+    match head_delimiter_start(s, d, on) {
+        Values::Bad => Answer::Refused(6),
+        Values::Count(n, e) => head_at(s, p, on, false),
+    }
 }
 
 // The first head from a line on: one is tried at each line.
@@ -26,15 +39,15 @@ pub fn next_head(s: &[u8], p: Point, on: bool) -> Next
 {
     let mut q = p;
     loop {
-        match head_at(s, q, on, false) {
-            Answer::Accepted(o) => {
-                return Next::Head(q, o);
+        match line_after(s, q) {
+            Further::Last => {
+                return Next::Nothing;
             }
-            Answer::Refused(k) => match line_after(s, q) {
-                Further::Last => {
-                    return Next::Nothing;
+            Further::More(d) => match head_above(s, q, d, on) {
+                Answer::Accepted(o) => {
+                    return Next::Head(q, o);
                 }
-                Further::More(d) => {
+                Answer::Refused(k) => {
                     q = d;
                 }
             },
