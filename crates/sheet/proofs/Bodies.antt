@@ -1,23 +1,20 @@
 -- The body rows after a line of a table, one line at a time.
 -- Assumes nothing.
 use Prim.Native.Nat.{ℕ, _+_, _*_}
-use mathlib.Core.Path.{_≡_, refl, ap, sym, _∙_}
-use mathlib.Core.Bool.{Bool, true, false, cond}
+use mathlib.Core.Path.{_≡_, ap, sym, _∙_}
+use mathlib.Core.Bool.{Bool, true, false}
 use mathlib.Core.List.{List, [], _∷_}
 use native.Mathlib.Omega.{arith}
-use lib.Dec.{eqb}
-use lib.ListN.{length, drop}
+use lib.ListN.{length}
 use Rattle.tokenizer.specs.declared.event.Point.{Point}
 use Rattle.tokenizer.specs.Bytes.{kindOf}
-use Rattle.tokenizer.specs.Points.{past, nextLine}
-use Rattle.tokenizer.specs.Lines.{endAt, blank}
+use Rattle.tokenizer.specs.Points.{past}
+use Rattle.tokenizer.specs.Lines.{blank}
 use Rattle.tokenizer.specs.Places.{Placed, linesFrom, linesPast}
 use Rattle.tokenizer.specs.Moves.{restOf, lineAt, after}
-use Rattle.tokenizer.proofs.Ahead.{past-none}
-use Rattle.tokenizer.proofs.Ends.{end-past, stop-rest}
 use Rattle.tokenizer.proofs.Places.{lines-from}
-use Rattle.gfm_table.specs.Rows.{Passed, rowPieces, rawRow}
-use Rattle.gfm_table.specs.Raw.{lineEndAt, textRow}
+use Rattle.gfm_table.specs.Rows.{rowPieces, rawRow}
+use Rattle.gfm_table.specs.Raw.{textRow}
 use Rattle.gfm_table.proofs.Plans.{row-length}
 use Rattle.edit_map.specs.Tables.{BodyRow, rawBody}
 use Rattle.sheet.specs.Walk.{lineEnd, bodyRows, heads, rows}

@@ -1,4 +1,4 @@
-// The next head of a sheet, and the end of a table's body.
+// The next head of a sheet, and the line behind a line.
 use gfm_table::delimiter::Values;
 use gfm_table::delimiter::head_delimiter_start;
 use gfm_table::heads::Answer;
@@ -6,14 +6,13 @@ use gfm_table::heads::Opened;
 use gfm_table::heads::head_at;
 use tokenizer::event::Point;
 use tokenizer::lines::Further;
-use tokenizer::lines::is_blank;
 use tokenizer::lines::line_after;
 use tokenizer::lines::line_end;
 ghost use mathlib.Core.Path.{_≡_};
 ghost use Prim.Native.Nat.{_+_};
 ghost use lib.ListN.{length};
 ghost use Rattle.tokenizer.specs.Moves.{restOf, after, furtherOf, Inside};
-ghost use Rattle.sheet.specs.From.{AtLine, Tried, Finds, Onward};
+ghost use Rattle.sheet.specs.From.{AtLine, Tried, Finds};
 
 // A head: where its line starts, and what it opens.
 pub enum Next {
@@ -70,25 +69,4 @@ pub fn line_behind(s: &[u8], p: Point, end: usize) -> Further
         index: end as u32 + n,
         vs: 0,
     })
-}
-
-// The blank line that ends the body after a line of a table, if there is one.
-pub fn body_end(s: &[u8], p: Point) -> Further
-    requires { ⌜ Inside (now s) p ⌝ }
-    ensures { λ r. ⌜ Onward (now (s .entry)) p r ⌝ }
-{
-    let mut q = p;
-    loop {
-        match line_after(s, q) {
-            Further::Last => {
-                return Further::Last;
-            }
-            Further::More(t) => {
-                if is_blank(s, t) {
-                    return Further::More(t);
-                }
-                q = t;
-            }
-        }
-    }
 }
