@@ -5,44 +5,42 @@ use mathlib.Core.Path.{_≡_, refl, sym, ap, _∙_}
 use mathlib.Core.List.{List, [], _∷_, _++_}
 use mathlib.Core.Bool.{Bool, true, false, cond, _&&_}
 use mathlib.Core.Option.{Option, none, some}
-use lib.Dec.{eqb, leb}
+use lib.Dec.{leb}
 use lib.ListN.{length, drop, replicate, length-drop}
 use native.Mathlib.Nat.{sub-zero}
 use native.Mathlib.Omega.{arith}
 use borrow.Author.Tests.{leb-true}
 use Rattle.tokenizer.specs.declared.event.Event.{Event}
+use Rattle.tokenizer.specs.Events.{blankEvent}
 use Rattle.tokenizer.specs.Slots.{eventAt, slotsOf, clearedFrom}
-use Rattle.tokenizer.proofs.Blanks.{slots-length, cleared-none, cleared-slots}
+use Rattle.tokenizer.proofs.Blanks.{slots-none, cleared-all}
 use Rattle.edit_map.specs.declared.resolve_accept.Place.the-variants.{Start}
 use Rattle.edit_map.specs.declared.resolve_accept.Reading.{Reading}
 use Rattle.edit_map.specs.declared.resolve_base.Part.the-variants.{Header}
 use Rattle.edit_map.specs.declared.resolve_step.Cursor.{Cursor}
-use Rattle.edit_map.specs.declared.resolve.Resolved.{Resolved}
 use Rattle.edit_map.specs.declared.resolve.Resolved.the-variants as resolved
 use Rattle.edit_map.specs.declared.resolve.Judged.{Judged}
 use Rattle.edit_map.specs.declared.infer_step.Aligning.{Aligning}
 use Rattle.edit_map.specs.declared.infer_step.Stage.the-variants.{Opening, Failed}
-use Rattle.edit_map.specs.declared.infer.Aligned.{Aligned}
 use Rattle.edit_map.specs.declared.infer.Aligned.the-variants as aligned
 use Rattle.edit_map.specs.Base.{most}
-use Rattle.edit_map.specs.Accept.{at, readAll, accepted, accepts}
+use Rattle.edit_map.specs.Accept.{at, readAll, accepts}
 use Rattle.edit_map.specs.TablesOf.{resolvedList}
-use Rattle.edit_map.specs.Turns.{plain}
-use Rattle.edit_map.specs.declared.resolve_turn.Phase.the-variants.{Out}
 use Rattle.edit_map.specs.Cursors.{moreOf, cursorAt, stepAt, stepped, cursorAfter}
-use Rattle.edit_map.specs.Align.{alignmentsAt, tableAlignments}
 use Rattle.edit_map.specs.AlignSteps.{startAt, isFound, scanOf, alignsFrom}
 use Rattle.edit_map.specs.Answers.{resolveAnswer, resolveSlots, alignedOf, alignAnswer, alignedSlots, alignSlots}
 use Rattle.edit_map.specs.Verdicts.{streamOf, judgeOf, againOf, toldOf}
-use Rattle.edit_map.proofs.Streams.{stays}
-use Rattle.edit_map.proofs.Steps.{drop-past, gave-is, Stands, steps, finished, Resolves}
+use Rattle.edit_map.proofs.Steps.{gave-is, as-many, finished, Resolves}
 use Rattle.edit_map.proofs.Resolving.{resolve-stream}
 use Rattle.edit_map.proofs.Aligns.{alignGiven, answer, aligns, counted, zeroed, fills}
 
 -- ## Resolve
 
-module _ (es : List Event) (n : ℕ) (fits : length es ≤ most) (small : n ≤ most) where
-  -- a list read to its end; the stream; the stream after n steps
+module _ (es ys : List Event) (fits : length es ≤ most) (small : length ys ≤ most) where
+  -- the number of slots; a list read to its end; the stream after a step for each slot
+  abbrev n : ℕ
+  n = length ys
+
   abbrev reading : Reading
   reading = readAll (at Start Header) es
 
@@ -50,19 +48,19 @@ module _ (es : List Event) (n : ℕ) (fits : length es ≤ most) (small : n ≤ 
   after b = cursorAfter es n (cursorAt (cond b 0 most))
 
   abbrev verdict : Bool → ℕ → Judged
-  verdict b k = cond b (record { keep = n; answer = resolved.Accepted k }) (record { keep = 0; answer = resolved.Refused 12 })
+  verdict b k = cond b (record { keep = k; answer = resolved.Accepted k }) (record { keep = 0; answer = resolved.Refused 12 })
 
   abbrev judged : Bool → Judged
-  judged b = cond b (verdict (finished es (after b)) (after b .given)) (record { keep = n; answer = resolved.Refused 10 })
+  judged b = cond b (verdict (finished es (after b)) (after b .given)) (record { keep = 0; answer = resolved.Refused 10 })
 
   abbrev out : List Event
   out = resolvedList es
 
-  answered : judgeOf reading (cursorAfter es n (streamOf reading) .given) (stepAt es (cursorAfter es n (streamOf reading)) .gave) n .answer ≡ resolveAnswer es n
+  answered : judgeOf reading (cursorAfter es n (streamOf reading) .given) (stepAt es (cursorAfter es n (streamOf reading)) .gave) .answer ≡ resolveAnswer es n
   unfolding judgeOf streamOf resolveAnswer
   answered = go (accepts es) refl
     where
-      fit : (b : Bool) → leb (length out) n ≡ b → Resolves es out n → cond b (resolved.Accepted (after true .given)) (resolved.Refused 12) ≡ cond b (resolved.Accepted (length out)) (resolved.Refused 12)
+      fit : (b : Bool) → leb (length out) n ≡ b → Resolves es out ys → cond b (resolved.Accepted (after true .given)) (resolved.Refused 12) ≡ cond b (resolved.Accepted (length out)) (resolved.Refused 12)
       fit true e r = ap resolved.Accepted (r .count (leb-true (length out) n e))
       fit false e r = refl
 
@@ -72,43 +70,42 @@ module _ (es : List Event) (n : ℕ) (fits : length es ≤ most) (small : n ≤ 
 
       go : (b : Bool) → accepts es ≡ b → judged b .answer ≡ cond b (cond (leb (length out) n) (resolved.Accepted (length out)) (resolved.Refused 12)) (resolved.Refused 10)
       go true e =
-          let r = resolve-stream es e fits n small in
+          let r = resolve-stream es e fits ys small in
           told (finished es (after true)) ∙ ap (λ (b : Bool). cond b (resolved.Accepted (after true .given)) (resolved.Refused 12)) (r .done) ∙ fit (leb (length out) n) refl r
       go false e = refl
 
-  -- a stream past the end gives blank records
-  nothing : (i : ℕ) → length es ≤ i → stepped es n (cursorAt i) ≡ slotsOf n []
-  nothing i past = steps es fits n {c = cursorAt i} {m = plain Out Header} {l = []} (record { mode = refl; place = drop-past es past }) ∙ stays n
+  -- slots that are all cleared
+  none-kept : (c : Cursor) → clearedFrom 0 (stepped es c ys) ≡ slotsOf n []
+  none-kept c = cleared-all (stepped es c ys) ∙ ap (λ (k : ℕ). replicate k blankEvent) (as-many es c ys) ∙ sym (slots-none n)
 
-  all-kept : (xs : List Event) → clearedFrom n (slotsOf n xs) ≡ slotsOf n xs
-  all-kept xs = cleared-none n (slotsOf n xs) (omega (arith, slots-length n xs))
-
-  slotted : clearedFrom (judgeOf reading (cursorAfter es n (streamOf reading) .given) (stepAt es (cursorAfter es n (streamOf reading)) .gave) n .keep) (stepped es n (streamOf reading)) ≡ resolveSlots es n
+  slotted : clearedFrom (judgeOf reading (cursorAfter es n (streamOf reading) .given) (stepAt es (cursorAfter es n (streamOf reading)) .gave) .keep) (stepped es (streamOf reading) ys) ≡ resolveSlots es n
   unfolding judgeOf streamOf resolveSlots
   slotted = go (accepts es) refl
     where
-      fit : (b : Bool) → clearedFrom (verdict b (after true .given) .keep) (slotsOf n out) ≡ slotsOf n (cond b out [])
-      fit true = all-kept out
-      fit false = cleared-slots 0 n out
+      fit : (b : Bool) → leb (length out) n ≡ b → Resolves es out ys → clearedFrom (verdict b (after true .given) .keep) (stepped es (cursorAt 0) ys) ≡ slotsOf n (cond b out [])
+      fit true e r =
+          let all = leb-true (length out) n e in
+          ap (λ (k : ℕ). clearedFrom k (stepped es (cursorAt 0) ys)) (r .count all) ∙ r .records all
+      fit false e r = none-kept (cursorAt 0)
 
-      go : (b : Bool) → accepts es ≡ b → clearedFrom (judged b .keep) (stepped es n (cursorAt (cond b 0 most))) ≡ slotsOf n (cond (b && leb (length out) n) out [])
+      go : (b : Bool) → accepts es ≡ b → clearedFrom (judged b .keep) (stepped es (cursorAt (cond b 0 most)) ys) ≡ slotsOf n (cond (b && leb (length out) n) out [])
       go true e =
-          let r = resolve-stream es e fits n small in
-          ap (λ (l : List Event). clearedFrom (judged true .keep) l) (r .records) ∙ fit (finished es (after true)) ∙ ap (λ (b : Bool). slotsOf n (cond b out [])) (r .done)
-      go false e = ap (clearedFrom n) (nothing most fits) ∙ all-kept []
+          let r = resolve-stream es e fits ys small in
+          ap (λ (b : Bool). clearedFrom (verdict b (after true .given) .keep) (stepped es (cursorAt 0) ys)) (r .done) ∙ fit (leb (length out) n) refl r
+      go false e = none-kept (cursorAt most)
 
-  -- the same, told by the record that the stream has at hand after n steps
+  -- the same, told by the record that the stream has at hand after that
   abbrev last : Cursor
   last = cursorAfter es n (streamOf reading)
 
   abbrev more : ℕ
   more = moreOf last (eventAt es (last .at))
 
-  pub resolve-answer : judgeOf reading (last .given) more n .answer ≡ resolveAnswer es n
-  resolve-answer = ap (λ (k : ℕ). judgeOf reading (last .given) k n .answer) (sym (gave-is es last)) ∙ answered
+  pub resolve-answer : judgeOf reading (last .given) more .answer ≡ resolveAnswer es n
+  resolve-answer = ap (λ (k : ℕ). judgeOf reading (last .given) k .answer) (sym (gave-is es last)) ∙ answered
 
-  pub resolve-slots : clearedFrom (judgeOf reading (last .given) more n .keep) (stepped es n (streamOf reading)) ≡ resolveSlots es n
-  resolve-slots = ap (λ (k : ℕ). clearedFrom (judgeOf reading (last .given) k n .keep) (stepped es n (streamOf reading))) (sym (gave-is es last)) ∙ slotted
+  pub resolve-slots : clearedFrom (judgeOf reading (last .given) more .keep) (stepped es (streamOf reading) ys) ≡ resolveSlots es n
+  resolve-slots = ap (λ (k : ℕ). clearedFrom (judgeOf reading (last .given) k .keep) (stepped es (streamOf reading) ys)) (sym (gave-is es last)) ∙ slotted
 
 -- ## Align
 

@@ -2,22 +2,24 @@
 -- Assumes nothing.
 use Prim.Native.Nat.{ℕ, suc, _+_, _-_, _<_, _≤_, _^_}
 use mathlib.Core.Path.{_≡_, refl, sym, ap, _∙_}
-use mathlib.Core.Bool.{Bool, true, false, cond, _||_, _&&_, not, true≢false}
+use mathlib.Core.Bool.{Bool, true, false, cond, _||_, _&&_, not}
 use mathlib.Core.List.{List, [], _∷_}
 use native.Mathlib.Omega.{arith}
 use lib.Dec.{eqb}
 use lib.ListN.{length, drop, drop-of-length-le}
 use Rattle.tokenizer.specs.declared.event.Event.{Event}
+use Rattle.tokenizer.specs.Slots.{eventAt}
 use Rattle.edit_map.specs.declared.resolve_accept.Reading.{Reading}
 use Rattle.edit_map.specs.declared.resolve_step.Cursor.{Cursor}
 use Rattle.edit_map.specs.declared.resolve_look.Look.{Look}
 use Rattle.edit_map.specs.declared.infer_step.Aligning.{Aligning}
-use Rattle.edit_map.specs.Base.{most, plusOf, onTo}
+use Rattle.edit_map.specs.Base.{most, plusOf, onTo, placedAt}
 use Rattle.edit_map.specs.Accept.{readStep, readAll}
 use Rattle.edit_map.specs.Cursors.{asks, lookStart, lookStep, lookAll, lookOf, stepAt, stepped, cursorAfter}
-use Rattle.edit_map.specs.AlignSteps.{alignStep, fresh, settled, stops, scanAll, scanOf, alignsFrom}
-use Rattle.edit_map.proofs.Steps.{off-stays}
+use Rattle.edit_map.specs.AlignSteps.{alignStep, fresh, stops, scanAll, scanOf, alignsFrom}
+use Rattle.edit_map.proofs.Steps.{off-stays, placed-is}
 use Rattle.edit_map.proofs.Scanning.{Scans}
+use Rattle.edit_map.proofs.Halting.{Halts}
 
 -- a record more is read, and none
 pub read-more : (r : Reading) (e : Event) (es : List Event) → readAll r (e ∷ es) ≡ readAll (readStep r e) es
@@ -28,30 +30,15 @@ pub read-none : (r : Reading) → readAll r [] ≡ r
 unfolding readAll
 read-none r = refl
 
--- a step more is made, and none
-pub step-more : (es : List Event) (n : ℕ) (c : Cursor) → stepped es (suc n) c ≡ stepAt es c .event ∷ stepped es n (stepAt es c .next)
-unfolding stepped
-step-more es n c = refl
-
-pub step-none : (es : List Event) (c : Cursor) → stepped es 0 c ≡ []
-unfolding stepped
-step-none es c = refl
-
--- the cursor after n steps, of which i are made and one more is
-pub after-more : (es : List Event) (n i : ℕ) (c : Cursor) → i < n → cursorAfter es (n - i) c ≡ cursorAfter es (n - (i + 1)) (stepAt es c .next)
-unfolding cursorAfter
-after-more es n i c l = ap (λ (k : ℕ). cursorAfter es k c) (one-less l)
-  where
-    one-less : i < n → n - i ≡ suc (n - (i + 1))
-    one-less h = omega (arith, h)
-
--- and of which all are
-pub after-none : (es : List Event) (n i : ℕ) (c : Cursor) → n ≤ i → cursorAfter es (n - i) c ≡ c
-unfolding cursorAfter
-after-none es n i c l = ap (λ (k : ℕ). cursorAfter es k c) (none l)
-  where
-    none : n ≤ i → n - i ≡ 0
-    none h = omega (arith, h)
+-- a slot more is filled, at the point of the record at hand, and none
+pub step-halts : (es : List Event) → Halts (λ (c : Cursor). placedAt (eventAt es (c .at)) (stepAt es c .event)) (λ c. stepAt es c .next) (λ c. eqb (stepAt es c .gave) 0) (stepped es) (cursorAfter es)
+unfolding stepped cursorAfter
+step-halts es = record {
+  none = λ c. refl;
+  more = λ c y ys. ap (λ (e : Event). e ∷ cond (eqb (stepAt es c .gave) 0) ys (stepped es (stepAt es c .next) ys)) (sym (placed-is es c));
+  still = λ c. refl;
+  on = λ n c. refl;
+}
 
 -- a length of a slice
 pub in-most : {n : ℕ} → n < 2 ^ 64 → n ≤ most
@@ -68,13 +55,13 @@ pub look-scans : Scans (λ (l : Look). not (l .on)) lookStep lookAll
 unfolding lookAll
 look-scans = record { none = λ l. refl; more = λ l e es h. refl; stays = λ l es h. off-stays l es (not-not (l .on) h) }
 
-pub look-starts : (es : List Event) (c : Cursor) (this : Event) → lookOf es c this ≡ lookAll lookStart (drop (onTo (not (asks (c .mode) this)) (plusOf (c .at) 2) (length es)) es)
+pub look-starts : (es : List Event) (c : Cursor) (this : Event) → lookOf es c this ≡ lookAll (lookStart this) (drop (onTo (not (asks (c .mode) this)) (plusOf (c .at) 2) (length es)) es)
 unfolding lookAll
 look-starts es c this = go (asks (c .mode) this)
   where
-    go : (b : Bool) → cond b (lookAll lookStart (drop (plusOf (c .at) 2) es)) lookStart ≡ lookAll lookStart (drop (onTo (not b) (plusOf (c .at) 2) (length es)) es)
+    go : (b : Bool) → cond b (lookAll (lookStart this) (drop (plusOf (c .at) 2) es)) (lookStart this) ≡ lookAll (lookStart this) (drop (onTo (not b) (plusOf (c .at) 2) (length es)) es)
     go true = refl
-    go false = ap (lookAll lookStart) (sym (drop-of-length-le es {i = length es} (omega arith)))
+    go false = ap (lookAll (lookStart this)) (sym (drop-of-length-le es {i = length es} (omega arith)))
 
 -- the alignments
 pub align-scans : (each : Bool) → Scans (stops each) alignStep (scanAll each)

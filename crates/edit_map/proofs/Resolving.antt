@@ -218,8 +218,8 @@ accepted-is es h =
     let same : tablesOf es ≡ p .tables = ap tablesOf (p .raw) ∙ tables-of (p .good) in
     (subst AreTables (sym same) (p .good), p .raw ∙ ap rawTables (sym same))
 
--- for an accepted list, n steps give its resolved list, blank past its end; the cursor knows whether that is done, and how many records it gave
-pub resolve-stream : (es : List Event) → accepts es ≡ true → length es ≤ most → (n : ℕ) → n ≤ most → Resolves es (resolvedList es) n
-resolve-stream es h fits n small =
+-- for an accepted list, the slots get its resolved list, once those behind it are cleared; the cursor knows whether that is done, and how many records it gave
+pub resolve-stream : (es : List Event) → accepts es ≡ true → length es ≤ most → (ys : List Event) → length ys ≤ most → Resolves es (resolvedList es) ys
+resolve-stream es h fits ys small =
     let p = accepted-is es h in
-    subst (λ (l : List Event). Resolves l (resolvedList es) n) (sym (p .1)) (resolves (p .0) (subst (λ (l : List Event). length l ≤ most) (p .1) fits) n small)
+    subst (λ (l : List Event). Resolves l (resolvedList es) ys) (sym (p .1)) (resolves (p .0) (subst (λ (l : List Event). length l ≤ most) (p .1) fits) ys small)

@@ -5,7 +5,6 @@ use mathlib.Core.Path.{_≡_, sym, ap, _∙_}
 use mathlib.Core.List.{List, [], _∷_}
 use mathlib.Core.Bool.{Bool, false, cond, _||_}
 use lib.Dec.{eqb}
-use lib.ListN.{drop}
 use Rattle.tokenizer.specs.declared.event.Event.{Event}
 use Rattle.tokenizer.specs.Events.{GfmTableCellDivider, SpaceOrTab, blankEvent}
 use Rattle.edit_map.specs.declared.resolve_turn.Phase.{Phase}
@@ -47,8 +46,3 @@ solidOf (e ∷ es) = cond (eqb (e .name) SpaceOrTab) (solidOf es) (isTextName (e
 
 abbrev pub turnAt : Mode → List Event → Turn
 turnAt m es = turnOf m (first es) (first (rest es)) (suc (aheadOf (rest (rest es)))) (solidOf (rest (rest es)))
-
--- n turns from a mode and a place of the list
-unfoldable pub stream : ℕ → Mode → List Event → List Event
-stream zero m es = []
-stream (suc n) m es = turnAt m es .event ∷ stream n (turnAt m es .mode) (drop (turnAt m es .by) es)

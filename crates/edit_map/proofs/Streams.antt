@@ -1,23 +1,21 @@
 -- What the stream gives for a list of raw tables.
 -- Assumes nothing.
-use Prim.Native.Nat.{ℕ, zero, suc}
+use Prim.Native.Nat.{ℕ}
 use mathlib.Core.Path.{_≡_, refl, sym, ap, _∙_, subst}
 use mathlib.Core.List.{List, [], _∷_, _++_, append-assoc}
-use mathlib.Core.Bool.{Bool, true, false, _||_, _&&_, true≢false}
+use mathlib.Core.Bool.{Bool, true, false, _||_, _&&_}
 use lib.Dec.{eqb, leb}
 use borrow.Author.Tests.{eqb-true}
 use Rattle.tokenizer.specs.declared.event.Event.{Event}
-use Rattle.tokenizer.specs.Slots.{slotsOf}
-use Rattle.tokenizer.specs.Events.{GfmTable, GfmTableBody, GfmTableCellDivider, GfmTableDelimiterCell, GfmTableDelimiterRow, GfmTableHead, GfmTableRow, LineEnding, SpaceOrTab, enter, leave, pointOf, blankEvent}
+use Rattle.tokenizer.specs.Events.{GfmTable, GfmTableBody, GfmTableCellDivider, GfmTableDelimiterCell, GfmTableDelimiterRow, GfmTableHead, GfmTableRow, LineEnding, SpaceOrTab, enter, leave, pointOf}
 use Rattle.gfm_table.specs.Rows.{Passed, both, allBoth, rawRow}
 use Rattle.gfm_table.specs.Rows
 use Rattle.edit_map.specs.declared.resolve_turn.Phase.the-variants.{Out, Head, Row, RowExit, HeadExit, End, BodyLeave, TableLeave}
 use Rattle.edit_map.specs.declared.resolve_base.Part.{Part}
 use Rattle.edit_map.specs.declared.resolve_base.Part.the-variants.{Header, Delimiter, Body}
-use Rattle.edit_map.specs.declared.resolve_turn.Mode.{Mode}
 use Rattle.edit_map.specs.Raw.{enters, leaves, rowPiece, delimiterPiece, ArePieces, IsRow, IsLineEnd, AreRows, IsTable, AreTables}
 use Rattle.edit_map.specs.Tables.{delimiterInner, rawTables, resolvedTables, BodyRow, Table, rawBody, rawTable, cells, cellEvents, firstCell, firstPoint, resolvedRow, resolvedText, resolvedRows, lastExit, resolvedBody, resolvedTable}
-use Rattle.edit_map.proofs.Stream.{stream, first, turnAt}
+use Rattle.edit_map.proofs.Stream.{first}
 use Rattle.edit_map.specs.Base.{isRowName, isTextName}
 use Rattle.edit_map.specs.Turns.{cellName, plain, goesOn}
 use Rattle.edit_map.proofs.Gives.{Gives, none, more, then, moved, turned, Sort, space, divider, text, Ends, AllFine, done, also, innerOf, at, some-cell, pieces}
@@ -160,18 +158,3 @@ pub tables-give : {ts : List Table} → AreTables ts → Gives (plain Out Header
 unfolding rawTables resolvedTables
 tables-give AreTables.none = none
 tables-give (AreTables.table {t = t} {ts = ts} h hs) = then (table-gives (rawTables ts) (first-stops hs) h) (tables-give hs)
-
--- at the end of the list the stream stays, and gives blank records
-pub stays : (n : ℕ) → stream n (plain Out Header) [] ≡ slotsOf n []
-unfolding stream slotsOf
-stays zero = refl
-stays (suc n) = ap (λ (l : List Event). blankEvent ∷ l) (stays n)
-
-gives-slotsOf : (n : ℕ) {m : Mode} {es out : List Event} → Gives m es out (plain Out Header) [] → stream n m es ≡ slotsOf n out
-unfolding stream slotsOf
-gives-slotsOf n none = stays n
-gives-slotsOf zero (more e g) = refl
-gives-slotsOf (suc n) (more {m = m} {es = es} {out = out} e g) = ap (λ (l : List Event). turnAt m es .event ∷ l) (gives-slotsOf n g)
-
-pub streams : (n : ℕ) {ts : List Table} → AreTables ts → stream n (plain Out Header) (rawTables ts) ≡ slotsOf n (resolvedTables ts)
-streams n h = gives-slotsOf n (tables-give h)

@@ -206,9 +206,12 @@ lk-ahead z is = LL.owed Look.the-type Look′.the-laws z (vals lk z) is .1 .1 .0
 pub lk-solid : (z : Look) → Is Lk z (vals lk z) → Is bool (z .solid) (vals bool-data (z .solid))
 lk-solid z is = LL.owed Look.the-type Look′.the-laws z (vals lk z) is .1 .1 .1 .0
 
+pub lk-brief : (z : Look) → Is Lk z (vals lk z) → Is bool (z .brief) (vals bool-data (z .brief))
+lk-brief z is = LL.owed Look.the-type Look′.the-laws z (vals lk z) is .1 .1 .1 .1 .0
+
 -- and a value whose fields fit
-pub lk-is : (z : Look) → Is bool (z .on) (vals bool-data (z .on)) → Is usize (z .count) (vals (uint-data w64) (z .count)) → Is usize (z .ahead) (vals (uint-data w64) (z .ahead)) → Is bool (z .solid) (vals bool-data (z .solid)) → Is Lk z (vals lk z)
-lk-is z p0 p1 p2 p3 = LL.owes Look.the-type Look′.the-laws z (p0, (p1, (p2, (p3, tt))))
+pub lk-is : (z : Look) → Is bool (z .on) (vals bool-data (z .on)) → Is usize (z .count) (vals (uint-data w64) (z .count)) → Is usize (z .ahead) (vals (uint-data w64) (z .ahead)) → Is bool (z .solid) (vals bool-data (z .solid)) → Is bool (z .brief) (vals bool-data (z .brief)) → Is Lk z (vals lk z)
+lk-is z p0 p1 p2 p3 p4 = LL.owes Look.the-type Look′.the-laws z (p0, (p1, (p2, (p3, (p4, tt)))))
 
 -- the fields of a value of `Cursor`
 pub rc-mode : (z : Cursor) → Is Rc z (vals rc z) → Is Md (z .mode) (vals md (z .mode))

@@ -2,6 +2,7 @@
 use Prim.Native.Nat.{ℕ, _+_, _-_}
 use mathlib.Core.Bool.{Bool, cond, _||_}
 use lib.Dec.{eqb, leb}
+use Rattle.tokenizer.specs.declared.event.Event.{Event}
 use Rattle.tokenizer.specs.Events.{Data, GfmTableRow, GfmTableDelimiterRow, GfmTableDelimiterMarker, GfmTableDelimiterFiller}
 
 -- the largest usize
@@ -11,6 +12,10 @@ most = 18446744073709551615
 -- a sum that stops there
 abbrev pub plusOf : ℕ → ℕ → ℕ
 plusOf a b = cond (leb b (most - a)) (a + b) most
+
+-- the event e, at the point of the event o
+abbrev pub placedAt : Event → Event → Event
+placedAt o e = record { kind = e .kind; name = e .name; line = o .line; column = o .column; index = o .index; vs = o .vs; link = e .link }
 
 -- the name of a row
 abbrev pub isRowName : ℕ → Bool

@@ -1,9 +1,9 @@
 -- The stream as the code runs it: by a cursor that holds a place of the list, and a look ahead where the mode asks for one.
 use Prim.Native.Nat.{ℕ, zero, suc}
 use mathlib.Core.List.{List, [], _∷_}
-use mathlib.Core.Bool.{Bool, true, false, cond, _||_, _&&_}
+use mathlib.Core.Bool.{Bool, true, false, cond, _||_, _&&_, not}
 use lib.Dec.{eqb}
-use lib.ListN.{drop}
+use lib.ListN.{length, drop}
 use Rattle.tokenizer.specs.declared.event.Event.{Event}
 use Rattle.tokenizer.specs.Slots.{eventAt}
 use Rattle.tokenizer.specs.Events.{GfmTableCellDivider, SpaceOrTab}
@@ -15,21 +15,21 @@ use Rattle.edit_map.specs.declared.resolve_turn.Turn.{Turn}
 use Rattle.edit_map.specs.declared.resolve_look.Look.{Look}
 use Rattle.edit_map.specs.declared.resolve_step.Cursor.{Cursor}
 use Rattle.edit_map.specs.declared.resolve_step.Stepped.{Stepped}
-use Rattle.edit_map.specs.Base.{plusOf, isTextName}
+use Rattle.edit_map.specs.Base.{plusOf, isTextName, onTo}
 use Rattle.edit_map.specs.Turns.{isOut, plain, turnOf}
 
 -- ## The look ahead
 
--- from the piece at hand: its own exit is 1 record ahead
-abbrev pub lookStart : Look
-lookStart = record { on = true; count = 1; ahead = 1; solid = false }
+-- from the piece at hand: its own exit is 1 record ahead; at a divider a brief look is enough
+abbrev pub lookStart : Event → Look
+lookStart this = record { on = true; count = 1; ahead = 1; solid = false; brief = eqb (this .name) GfmTableCellDivider }
 
--- one more record; n is the count with it
+-- one more record; n is the count with it; a brief look ends where something solid is found
 abbrev pub lookOn : ℕ → Look → Event → Look
 lookOn n l e =
-    cond (eqb (e .name) SpaceOrTab) (record { on = true; count = n; ahead = l .ahead; solid = l .solid })
-    (cond (isTextName (e .name)) (record { on = true; count = n; ahead = n; solid = true })
-    (record { on = false; count = l .count; ahead = l .ahead; solid = l .solid || eqb (e .name) GfmTableCellDivider }))
+    cond (eqb (e .name) SpaceOrTab) (record { on = true; count = n; ahead = l .ahead; solid = l .solid; brief = l .brief })
+    (cond (isTextName (e .name)) (record { on = not (l .brief); count = n; ahead = n; solid = true; brief = l .brief })
+    (record { on = false; count = l .count; ahead = l .ahead; solid = l .solid || eqb (e .name) GfmTableCellDivider; brief = l .brief }))
 
 -- one more record; once it is off it stays
 unfoldable pub lookStep : Look → Event → Look
@@ -61,9 +61,28 @@ isPiece Open = false
 isPiece BodyLeave = false
 isPiece TableLeave = false
 
--- a look ahead is asked for at a divider that may open a cell, and where a value opens
+-- a look ahead is asked for at a divider that may open a cell, and wherever a value may open
 abbrev pub asks : Mode → Event → Bool
-asks m this = isPiece (m .phase) && (m .seen && eqb (this .name) GfmTableCellDivider || m .waits && isTextName (this .name))
+asks m this = isPiece (m .phase) && (not (eqb (this .name) SpaceOrTab) && (m .seen || not (eqb (this .name) GfmTableCellDivider)))
+
+-- the phases whose turns read the next record
+abbrev pub reads : Phase → Bool
+reads Out = false
+reads Head = false
+reads Row = false
+reads Cell = false
+reads Piece = false
+reads Exit = false
+reads Text = false
+reads Copy = false
+reads Leave = false
+reads RowExit = true
+reads HeadExit = true
+reads End = false
+reads EndExit = false
+reads Open = false
+reads BodyLeave = false
+reads TableLeave = false
 
 -- the cursor after a turn
 abbrev pub moves : Cursor → Turn → Cursor
@@ -75,11 +94,15 @@ resolveStep c this next look = let t = turnOf (c .mode) this next (look .ahead) 
 
 -- the look ahead of a cursor, where it asks for one
 abbrev pub lookOf : List Event → Cursor → Event → Look
-lookOf es c this = cond (asks (c .mode) this) (lookAll lookStart (drop (plusOf (c .at) 2) es)) lookStart
+lookOf es c this = cond (asks (c .mode) this) (lookAll (lookStart this) (drop (plusOf (c .at) 2) es)) (lookStart this)
+
+-- the place of the next record, or the list's end where it is not read
+abbrev pub nextPlace : List Event → Cursor → ℕ
+nextPlace es c = onTo (not (reads (c .mode .phase))) (plusOf (c .at) 1) (length es)
 
 -- the step of a cursor in a list
 abbrev pub stepAt : List Event → Cursor → Stepped
-stepAt es c = resolveStep c (eventAt es (c .at)) (eventAt es (plusOf (c .at) 1)) (lookOf es c (eventAt es (c .at)))
+stepAt es c = resolveStep c (eventAt es (c .at)) (eventAt es (nextPlace es c)) (lookOf es c (eventAt es (c .at)))
 
 -- 1 where one more record is to be given, 0 past the last
 unfoldable pub moreOf : Cursor → Event → ℕ
@@ -89,12 +112,12 @@ moreOf c this = cond (isOut (c .mode .phase) && eqb (this .kind) 0) 0 1
 abbrev pub cursorAt : ℕ → Cursor
 cursorAt i = record { mode = plain Out Header; at = i; given = 0 }
 
--- the records that n steps give
-unfoldable pub stepped : List Event → ℕ → Cursor → List Event
-stepped es zero c = []
-stepped es (suc n) c = stepAt es c .event ∷ stepped es n (stepAt es c .next)
+-- slots filled by steps, one each, up to the step that gives no record; those behind it stay
+unfoldable pub stepped : List Event → Cursor → List Event → List Event
+stepped es c [] = []
+stepped es c (y ∷ ys) = stepAt es c .event ∷ cond (eqb (stepAt es c .gave) 0) ys (stepped es (stepAt es c .next) ys)
 
--- the cursor after n steps
+-- the cursor after n slots
 unfoldable pub cursorAfter : List Event → ℕ → Cursor → Cursor
 cursorAfter es zero c = c
-cursorAfter es (suc n) c = cursorAfter es n (stepAt es c .next)
+cursorAfter es (suc n) c = cond (eqb (stepAt es c .gave) 0) (stepAt es c .next) (cursorAfter es n (stepAt es c .next))

@@ -3,7 +3,7 @@ use Prim.Native.Nat.{ℕ, _-_}
 use mathlib.Core.Bool.{Bool, true, false, cond, _||_, _&&_, not}
 use lib.Dec.{eqb}
 use Rattle.tokenizer.specs.declared.event.Event.{Event}
-use Rattle.tokenizer.specs.Events.{Data, GfmTable, GfmTableBody, GfmTableCell, GfmTableCellDivider, GfmTableCellText, GfmTableDelimiterCell, GfmTableDelimiterCellValue, GfmTableDelimiterFiller, GfmTableDelimiterMarker, GfmTableDelimiterRow, GfmTableRow, LineEnding, SpaceOrTab, enter, leave, linked, pointOf, blankEvent}
+use Rattle.tokenizer.specs.Events.{GfmTable, GfmTableBody, GfmTableCell, GfmTableCellDivider, GfmTableCellText, GfmTableDelimiterCell, GfmTableDelimiterCellValue, LineEnding, SpaceOrTab, enter, leave, linked, pointOf}
 use Rattle.edit_map.specs.declared.resolve_turn.Phase.{Phase}
 use Rattle.edit_map.specs.declared.resolve_turn.Phase.the-variants.{Out, Head, Row, Cell, Piece, Exit, Text, Copy, Leave, RowExit, HeadExit, End, EndExit, Open, BodyLeave, TableLeave}
 use Rattle.edit_map.specs.declared.resolve_base.Part.{Part}
@@ -101,9 +101,9 @@ rowExitTurn Body this next = cond (goesOn next) (given this (plain End Body) 1) 
 abbrev pub headExitTurn : Event → Event → Turn
 headExitTurn this next = cond (goesOn next) (given this (plain End Delimiter) 1) (given this (plain TableLeave Delimiter) 0)
 
--- before a table, or at the end of the list, where blank records follow
+-- before a table, or at the end of the list, where the blank record that is read there is given
 abbrev pub outTurn : Mode → Event → Turn
-outTurn m this = cond (eqb (this .kind) 0) (record { event = blankEvent; mode = m; by = 0; gave = 0 }) (given (enter GfmTable (pointOf this)) (plain Head Header) 0)
+outTurn m this = cond (eqb (this .kind) 0) (record { event = this; mode = m; by = 0; gave = 0 }) (given (enter GfmTable (pointOf this)) (plain Head Header) 0)
 
 -- a value is copied up to its last exit, after which it is left
 abbrev pub copyTurn : Mode → Event → Turn

@@ -20,11 +20,11 @@ unfoldable pub streamOf : Reading → Cursor
 streamOf r = cursorAt (cond (accepted r) 0 most)
 
 -- the answer, and how many slots stay, where the stream gave so many records and its next step gives one more or none
-unfoldable pub judgeOf : Reading → ℕ → ℕ → ℕ → Judged
-judgeOf r given gave n =
+unfoldable pub judgeOf : Reading → ℕ → ℕ → Judged
+judgeOf r given gave =
     cond (accepted r)
-    (cond (eqb gave 0) (record { keep = n; answer = resolved.Accepted given }) (record { keep = 0; answer = resolved.Refused 12 }))
-    (record { keep = n; answer = resolved.Refused 10 })
+    (cond (eqb gave 0) (record { keep = given; answer = resolved.Accepted given }) (record { keep = 0; answer = resolved.Refused 12 }))
+    (record { keep = 0; answer = resolved.Refused 10 })
 
 -- the alignments are read again where they are found and have slots
 unfoldable pub againOf : Aligning → ℕ → ℕ → Aligning

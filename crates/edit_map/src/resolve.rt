@@ -3,16 +3,18 @@ use crate::resolve_accept::Reading;
 use crate::resolve_accept::accept_start;
 use crate::resolve_accept::accept_step;
 use crate::resolve_accept::is_accepted;
-use crate::resolve_base::plus;
+use crate::resolve_base::placed_at;
 use crate::resolve_look::Look;
 use crate::resolve_look::look_first;
 use crate::resolve_look::look_next;
 use crate::resolve_look::look_start;
 use crate::resolve_look::look_step;
+use crate::resolve_look::next_first;
 use crate::resolve_step::Cursor;
 use crate::resolve_step::Stepped;
 use crate::resolve_step::cursor_at;
 use crate::resolve_step::more_at;
+use crate::resolve_step::next_slot;
 use crate::resolve_step::resolve_step;
 use tokenizer::event::Event;
 use tokenizer::slots::at_or_blank;
@@ -53,13 +55,13 @@ fn stream_of(r: Reading) -> Cursor
 }
 
 // Questions 10 and 12, where the stream gave so many events, and its next step one more or none.
-fn judge(r: Reading, given: usize, gave: usize, n: usize) -> Judged
-    ensures { λ j. ⌜ j ≡ judgeOf r given gave n ⌝ }
+fn judge(r: Reading, given: usize, gave: usize) -> Judged
+    ensures { λ j. ⌜ j ≡ judgeOf r given gave ⌝ }
 {
     if is_accepted(r) {
         if gave == 0 {
             return Judged {
-                keep: n,
+                keep: given,
                 answer: Resolved::Accepted(given),
             };
         }
@@ -69,7 +71,7 @@ fn judge(r: Reading, given: usize, gave: usize, n: usize) -> Judged
         };
     }
     Judged {
-        keep: n,
+        keep: 0,
         answer: Resolved::Refused(10),
     }
 }
@@ -93,7 +95,7 @@ fn look_ahead(list: &[Event], c: Cursor, this: Event) -> Look
     ensures { λ r. ⌜ r ≡ lookOf (now (list .entry)) c this ⌝ }
 {
     let n = list.len();
-    let mut cur = look_start();
+    let mut cur = look_start(this);
     let mut i = look_first(c.mode, this, c.at, n);
     while i < n {
         cur = look_step(cur, list[i]);
@@ -108,25 +110,29 @@ fn step_at(list: &[Event], c: Cursor) -> Stepped
     ensures { λ r. ⌜ r ≡ stepAt (now (list .entry)) c ⌝ }
 {
     let this = at_or_blank(list, c.at);
-    let j = plus(c.at, 1);
+    let n = list.len();
+    let j = next_first(c.mode, c.at, n);
     let next = at_or_blank(list, j);
     let look = look_ahead(list, c, this);
     resolve_step(c, this, next, look)
 }
 
-// As many steps as there are slots.
+// A step for each slot, up to the step that gives no record.
 fn fill_results(list: &[Event], c: Cursor, results: &mut [Event]) -> Cursor
     ensures { λ r. ⌜ (r ≡ cursorAfter (now (list .entry)) (length (now (results .entry))) c)
-        × (now (results .exit) ≡ stepped (now (list .entry)) (length (now (results .entry))) c) ⌝ }
+        × (now (results .exit) ≡ stepped (now (list .entry)) c (now (results .entry))) ⌝ }
 {
     let n = results.len();
     let mut cur = c;
     let mut i = 0;
     while i < n {
         let s = step_at(list, cur);
-        results[i] = s.event;
+        let o = at_or_blank(list, cur.at);
+        let e = placed_at(o, s.event);
+        results[i] = e;
         cur = s.next;
-        i += 1;
+        let k = next_slot(s.gave, i, n);
+        i = k;
     }
     cur
 }
@@ -136,13 +142,12 @@ pub fn resolve(list: &[Event], results: &mut [Event]) -> Resolved
     ensures { λ r. ⌜ (r ≡ resolveAnswer (now (list .entry)) (length (now (results .entry))))
         × (now (results .exit) ≡ resolveSlots (now (list .entry)) (length (now (results .entry)))) ⌝ }
 {
-    let n = results.len();
     let r = accept(list);
     let c = stream_of(r);
     let last = fill_results(list, c, results);
     let this = at_or_blank(list, last.at);
     let more = more_at(last, this);
-    let j = judge(r, last.given, more, n);
+    let j = judge(r, last.given, more);
     clear_from(results, j.keep);
     j.answer
 }

@@ -5,7 +5,7 @@ use tokenizer::event::Point;
 ghost use mathlib.Core.Path.{_≡_};
 ghost use mathlib.Core.Bool.{_||_, _&&_};
 ghost use Rattle.tokenizer.specs.Events;
-ghost use Rattle.edit_map.specs.Base.{plusOf, isRowName, isTextName, onTo};
+ghost use Rattle.edit_map.specs.Base.{plusOf, isRowName, isTextName, onTo, placedAt};
 
 // The kind of row that is read.
 pub enum Part {
@@ -76,6 +76,21 @@ pub fn linked(e: Event) -> Event
         index: e.index,
         vs: e.vs,
         link: 1,
+    }
+}
+
+// The event e, at the point of another.
+pub fn placed_at(o: Event, e: Event) -> Event
+    ensures { λ r. ⌜ r ≡ placedAt o e ⌝ }
+{
+    Event {
+        kind: e.kind,
+        name: e.name,
+        line: o.line,
+        column: o.column,
+        index: o.index,
+        vs: o.vs,
+        link: e.link,
     }
 }
 

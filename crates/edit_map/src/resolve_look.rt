@@ -10,25 +10,27 @@ use tokenizer::event::Name;
 ghost use mathlib.Core.Path.{_≡_};
 ghost use mathlib.Core.Bool.{not};
 ghost use Rattle.edit_map.specs.Base.{plusOf, onTo};
-ghost use Rattle.edit_map.specs.Cursors.{lookStart, lookOn, lookStep, isPiece, asks};
+ghost use Rattle.edit_map.specs.Cursors.{lookStart, lookOn, lookStep, isPiece, asks, reads};
 
-// What a look ahead found behind a piece.
+// What a look ahead found behind a piece; a brief one ends where something solid is found.
 pub struct Look {
     pub on: bool,
     pub count: usize,
     pub ahead: usize,
     pub solid: bool,
+    pub brief: bool,
 }
 
-// The start of a look ahead: the exit of the piece at hand is 1 record ahead.
-pub fn look_start() -> Look
-    ensures { λ r. ⌜ r ≡ lookStart ⌝ }
+// The start of a look ahead: the exit of the piece at hand is 1 record ahead. At a divider it is brief.
+pub fn look_start(this: Event) -> Look
+    ensures { λ r. ⌜ r ≡ lookStart this ⌝ }
 {
     Look {
         on: true,
         count: 1,
         ahead: 1,
         solid: false,
+        brief: this.name == Name::GfmTableCellDivider,
     }
 }
 
@@ -42,14 +44,16 @@ fn look_on(n: usize, l: Look, e: Event) -> Look
             count: n,
             ahead: l.ahead,
             solid: l.solid,
+            brief: l.brief,
         };
     }
     if is_text_name(e.name) {
         return Look {
-            on: true,
+            on: !l.brief,
             count: n,
             ahead: n,
             solid: true,
+            brief: l.brief,
         };
     }
     Look {
@@ -57,6 +61,7 @@ fn look_on(n: usize, l: Look, e: Event) -> Look
         count: l.count,
         ahead: l.ahead,
         solid: either(l.solid, e.name == Name::GfmTableCellDivider),
+        brief: l.brief,
     }
 }
 
@@ -67,7 +72,13 @@ pub fn look_step(l: Look, e: Event) -> Look
     if l.on {
         look_on(plus(l.count, 1), l, e)
     } else {
-        l
+        Look {
+            on: l.on,
+            count: l.count,
+            ahead: l.ahead,
+            solid: l.solid,
+            brief: l.brief,
+        }
     }
 }
 
@@ -102,9 +113,9 @@ pub fn asks(m: Mode, this: Event) -> bool
     let h = m.phase;
     both(
         is_piece(h),
-        either(
-            both(m.seen, this.name == Name::GfmTableCellDivider),
-            both(m.waits, is_text_name(this.name)),
+        both(
+            this.name != Name::SpaceOrTab,
+            either(m.seen, this.name != Name::GfmTableCellDivider),
         ),
     )
 }
@@ -121,4 +132,36 @@ pub fn look_next(l: Look, i: usize, n: usize) -> usize
     ensures { λ r. ⌜ r ≡ onTo (not (l .on)) (plusOf i 1) n ⌝ }
 {
     if l.on { plus(i, 1) } else { n }
+}
+
+// Whether the turn of a phase reads the next record.
+fn reads_next(h: Phase) -> bool
+    ensures { λ r. ⌜ r ≡ reads h ⌝ }
+{
+    match h {
+        Phase::Out => false,
+        Phase::Head => false,
+        Phase::Row => false,
+        Phase::Cell => false,
+        Phase::Piece => false,
+        Phase::Exit => false,
+        Phase::Text => false,
+        Phase::Copy => false,
+        Phase::Leave => false,
+        Phase::RowExit => true,
+        Phase::HeadExit => true,
+        Phase::End => false,
+        Phase::EndExit => false,
+        Phase::Open => false,
+        Phase::BodyLeave => false,
+        Phase::TableLeave => false,
+    }
+}
+
+// The place of the next record, or the end where it is not read.
+pub fn next_first(m: Mode, at: usize, n: usize) -> usize
+    ensures { λ r. ⌜ r ≡ onTo (not (reads (m .phase))) (plusOf at 1) n ⌝ }
+{
+    let h = m.phase;
+    if reads_next(h) { plus(at, 1) } else { n }
 }

@@ -9,6 +9,8 @@ use crate::resolve_turn::plainly;
 use crate::resolve_turn::turn_of;
 use tokenizer::event::Event;
 ghost use mathlib.Core.Path.{_≡_};
+ghost use lib.Dec.{eqb};
+ghost use Rattle.edit_map.specs.Base.{plusOf, onTo};
 ghost use Rattle.edit_map.specs.Cursors.{moreOf, resolveStep, cursorAt};
 
 // Where the stream stands in the list, and how many records it gave.
@@ -70,4 +72,11 @@ pub fn more_at(c: Cursor, this: Event) -> usize
         return 1;
     }
     1
+}
+
+// The slot after slot i, or the end where a step gave no record.
+pub fn next_slot(gave: usize, i: usize, n: usize) -> usize
+    ensures { λ r. ⌜ r ≡ onTo (eqb gave 0) (plusOf i 1) n ⌝ }
+{
+    if gave == 0 { n } else { plus(i, 1) }
 }

@@ -172,13 +172,13 @@ fn head_exit_turn(this: Event, next: Event) -> Turn
     }
 }
 
-// Before a table, or at the end of the list, where blank records follow.
+// Before a table, or at the end of the list, where the blank record that is read there is given.
 fn out_turn(m: Mode, this: Event) -> Turn
     ensures { λ r. ⌜ r ≡ outTurn m this ⌝ }
 {
     if this.kind == 0 {
         Turn {
-            event: Event::blank(),
+            event: this,
             mode: m,
             by: 0,
             gave: 0,

@@ -23,7 +23,7 @@ use Rattle.tokenizer.specs.Lines.{isEmpty, unindented, blank}
 use Rattle.gfm_table.specs.Heads.{untailed, hyphens, isValue, stretches, trimmed, untrailed, allValues, values, isDelimiterRow}
 
 module _ (kind : ℕ → ℕ) where
-  -- the bytes up to the first pipe, and what follows them
+  -- the bytes up to the first pipe
   unfoldable pub stretch : List ℕ → List ℕ
   stretch [] = []
   stretch (b ∷ u) = cond (eqb (kind b) 3) [] (b ∷ stretch u)
@@ -41,15 +41,19 @@ written u = untailed kindOf (unindented kindOf (stretch kindOf u))
 abbrev pub valueIf : Bool → Point → List ℕ → Cell
 valueIf b p u = cond b (Value (past p (stretch kindOf u))) Bad
 
+-- a value that is written to its end: only whitespace may be left of its stretch
 abbrev pub blankAt : Point → List ℕ → Cell
 blankAt p u = valueIf (blank kindOf (stretch kindOf u)) p u
 
+-- a value behind its hyphens
 abbrev pub closedAt : Point → List ℕ → Cell
 closedAt p u = valueIf (closes kindOf u) p u
 
+-- a value at its hyphens, behind an optional colon
 abbrev pub hyphensAt : Point → List ℕ → Cell
 hyphensAt p u = valueIf (hyphens kindOf (untailed kindOf (stretch kindOf u))) p u
 
+-- the first stretch: nothing but whitespace, a value, or something else
 abbrev pub cellAt : Point → List ℕ → Cell
 cellAt p u = cond (isEmpty (written u)) (Empty (past p (stretch kindOf u))) (valueIf (isValue kindOf (written u)) p u)
 
@@ -61,23 +65,28 @@ countIf cs n e = cond (allValues kindOf cs) (Count (n + length cs) e) NoValues
 abbrev pub restAt : ℕ → Point → List ℕ → Values
 restAt n p u = countIf (untrailed (trimmed kindOf (stretches kindOf u))) n (past p u)
 
+-- the values of a line, the outer dividers taken off, where each stretch is one
 abbrev pub valuesAt : Point → List ℕ → Values
 valuesAt p u = countIf (values kindOf u) 0 (past p u)
 
+-- the number of values of a delimiter row and its end, or that the line is none
 abbrev pub delimiterAt : Bool → Point → List ℕ → Values
 delimiterAt on p u = cond (isDelimiterRow kindOf on u) (Count (length (values kindOf u)) (past p u)) NoValues
 
 -- ## Pieces
 
 module _ (kind : ℕ → ℕ) where
+  -- the bytes in front that are named fillers
   unfoldable pub fillerRun : List ℕ → List ℕ
   fillerRun [] = []
   fillerRun (b ∷ u) = cond (eqb (delimiterName kind b) Events.GfmTableDelimiterFiller) (b ∷ fillerRun u) []
 
+  -- what stands behind them
   unfoldable pub fillerRest : List ℕ → List ℕ
   fillerRest [] = []
   fillerRest (b ∷ u) = cond (eqb (delimiterName kind b) Events.GfmTableDelimiterFiller) (fillerRest u) (b ∷ u)
 
+-- the pieces of a delimiter line from a point on
 abbrev pub delimiterPiecesAt : List ℕ → Point → List Piece
 delimiterPiecesAt s p = delimiterPieces kindOf (restOf s p)
 
@@ -86,6 +95,7 @@ abbrev pub afterOne : Scan → List Piece → Step
 afterOne q [] = Ended q
 afterOne q (x ∷ xs) = Paused (passedTo (x .name) (past (q .at) (x .text)) q)
 
+-- a step over one piece: the state behind it, or the end; one piece less is left; no counter has passed the bytes
 pub record NextPiece (s : List ℕ) (q : Scan) (r : Step) : Type 0 where
   pub is : r ≡ afterOne q (delimiterPiecesAt s (q .at))
   pub left : delimiterPiecesAt s (stateOf r .at) ≡ drop 1 (delimiterPiecesAt s (q .at))

@@ -68,6 +68,7 @@ pub record Row : Type 0 where
   pub pieces : List Passed
   pub exit : Event
 
+-- the two events of a piece, in order
 abbrev pub both : Passed → List Event
 both x = x .entry ∷ x .exit ∷ []
 

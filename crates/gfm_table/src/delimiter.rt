@@ -8,6 +8,7 @@ use tokenizer::moves::kind_at;
 use tokenizer::moves::over;
 use tokenizer::moves::run_end;
 use tokenizer::moves::space_end;
+use tokenizer::partial_space_or_tab::space_ends;
 ghost use mathlib.Core.Path.{_≡_};
 ghost use Prim.Native.Nat.{_≤_};
 ghost use lib.ListN.{length, drop};
@@ -159,14 +160,15 @@ pub fn marked_from(s: &[u8], p: Point) -> bool
     }
 }
 
-// Whether a line's indent is permitted.
+// Whether a line's indent is permitted. Most lines have none.
 pub fn permits(s: &[u8], p: Point, on: bool) -> bool
     requires { ⌜ Inside (now s) p × (p .column ≡ 1) ⌝ }
     ensures { λ r. ⌜ r ≡ permitted kindOf on (restOf (now (s .entry)) p) ⌝ }
 {
     if on {
-        let q = space_end(s, p);
-        return q.column <= Point::INDENT_CAP + 1;
+        if ahead(s, p) == 1 {
+            return space_ends(s, p, Point::INDENT_CAP);
+        }
     }
     true
 }

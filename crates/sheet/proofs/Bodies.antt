@@ -1,23 +1,20 @@
 -- The body rows after a line of a table, one line at a time.
 -- Assumes nothing.
 use Prim.Native.Nat.{ℕ, _+_, _*_}
-use mathlib.Core.Path.{_≡_, refl, ap, sym, _∙_}
-use mathlib.Core.Bool.{Bool, true, false, cond}
+use mathlib.Core.Path.{_≡_, ap, sym, _∙_}
+use mathlib.Core.Bool.{Bool, true, false}
 use mathlib.Core.List.{List, [], _∷_}
 use native.Mathlib.Omega.{arith}
-use lib.Dec.{eqb}
-use lib.ListN.{length, drop}
+use lib.ListN.{length}
 use Rattle.tokenizer.specs.declared.event.Point.{Point}
 use Rattle.tokenizer.specs.Bytes.{kindOf}
-use Rattle.tokenizer.specs.Points.{past, nextLine}
-use Rattle.tokenizer.specs.Lines.{endAt, blank}
+use Rattle.tokenizer.specs.Points.{past}
+use Rattle.tokenizer.specs.Lines.{blank}
 use Rattle.tokenizer.specs.Places.{Placed, linesFrom, linesPast}
 use Rattle.tokenizer.specs.Moves.{restOf, lineAt, after}
-use Rattle.tokenizer.proofs.Ahead.{past-none}
-use Rattle.tokenizer.proofs.Ends.{end-past, stop-rest}
 use Rattle.tokenizer.proofs.Places.{lines-from}
-use Rattle.gfm_table.specs.Rows.{Passed, rowPieces, rawRow}
-use Rattle.gfm_table.specs.Raw.{lineEndAt, textRow}
+use Rattle.gfm_table.specs.Rows.{rowPieces, rawRow}
+use Rattle.gfm_table.specs.Raw.{textRow}
 use Rattle.gfm_table.proofs.Plans.{row-length}
 use Rattle.edit_map.specs.Tables.{BodyRow, rawBody}
 use Rattle.sheet.specs.Walk.{lineEnd, bodyRows, heads, rows}
@@ -61,7 +58,7 @@ module _ (s : List ℕ) (p : Point) where
       rows-blank on = ap (rows kindOf on) next-lines ∙ rw b (sym (heads-at-blank s (after s p) on b))
 
     module _ (b : blank kindOf (restOf s (after s p)) ≡ false) where
-      body-row : bodyEvents s p ≡ 4 + 2 * length (rowPieces kindOf false (restOf s (after s p))) + bodyEvents s (after s p)
+      pub body-row : bodyEvents s p ≡ 4 + 2 * length (rowPieces kindOf false (restOf s (after s p))) + bodyEvents s (after s p)
       unfolding bodyRows rawBody
       body-row =
           let q = after s p in
@@ -76,11 +73,3 @@ module _ (s : List ℕ) (p : Point) where
       pub rows-row : (on : Bool) → rows kindOf on (linesPast s p) ≡ rows kindOf on (linesPast s (after s p))
       unfolding heads
       rows-row on = ap (rows kindOf on) next-lines ∙ rw b
-
--- after a row is read, at its end
-module _ (s : List ℕ) (p q : Point) (e : q ≡ past (after s p) (restOf s (after s p))) (z : lineAt s p .end ≡ 0 → ⊥) (b : blank kindOf (restOf s (after s p)) ≡ false) where
-  pub body-on : bodyEvents s p ≡ 4 + 2 * length (rowPieces kindOf false (restOf s (after s p))) + bodyEvents s q
-  body-on = omega (arith, body-row s p z b, body-stop s (after s p), ap (bodyEvents s) e)
-
-  pub rows-on : (on : Bool) → rows kindOf on (linesPast s q) ≡ rows kindOf on (linesPast s p)
-  rows-on on = ap (λ (k : Point). rows kindOf on (linesPast s k)) e ∙ ap (rows kindOf on) (stop-past s (after s p)) ∙ sym (rows-row s p z b on)

@@ -67,6 +67,9 @@ module _ (s : List ℕ) (on : Bool) (p q : Point) (o : Opened) (h : Opens s on p
   unfolding alignedOf
   aligns-rows = ap alignedOf (h .tables) ∙ ap (λ (x : Opened). alignsOf s x ++ alignedOf others) (sym (h .parts))
 
+  pub aligns-parts : length (alignedOf (heads kindOf on (linesFrom s p))) ≡ o .cells + length (alignedOf others)
+  aligns-parts = omega (arith, ap length aligns-rows, length-append (alignsOf s o) (alignedOf others), aligns-length)
+
   -- the tables behind its body
   pub rows-next : (next : Further) → Onward s (o .end) next → others ≡ tablesAt s on next
   rows-next next t = sym (ap (λ (x : Opened). rows kindOf on (linesPast s (x .end))) (h .parts) ∙ ap (rows kindOf on) (stop-past s (after s q))) ∙ t .tables on

@@ -12,20 +12,23 @@ use Rattle.tokenizer.specs.declared.event.Point.{Point}
 use Rattle.tokenizer.specs.declared.lines.Further.the-variants.{More, Last}
 use Rattle.tokenizer.specs.Bytes.{kindOf}
 use Rattle.tokenizer.specs.Points.{start}
-use Rattle.tokenizer.specs.Lines.{unindented, blank}
+use Rattle.tokenizer.specs.Lines.{Line, unindented, blank}
 use Rattle.tokenizer.specs.Places.{Placed, linesFrom, linesPast}
 use Rattle.tokenizer.specs.Moves.{restOf, lineAt, after, furtherOf, Inside}
 use Rattle.tokenizer.proofs.Places.{lines-from}
 use Rattle.tokenizer.proofs.Ends.{after-inside}
 use Rattle.gfm_table.specs.declared.heads.Opened.{Opened}
+use Rattle.gfm_table.specs.declared.heads.Answer.{Answer}
 use Rattle.gfm_table.specs.declared.heads.Answer.the-variants.{Refused, Accepted}
+use Rattle.gfm_table.specs.declared.delimiter.Values.the-variants.{Count, Bad as NoValues}
 use Rattle.gfm_table.specs.Rows.{Piece, onPieces, oddAfter, rowPieces}
-use Rattle.gfm_table.specs.Heads.{solid, permitted, headRefusal}
+use Rattle.gfm_table.specs.Heads.{solid, permitted, loneDivider, isDelimiterRow, headRefusal}
+use Rattle.gfm_table.specs.Delimiters.{delimiterAt}
 use Rattle.gfm_table.specs.Answers.{headAt}
 use Rattle.gfm_table.proofs.Answers.{is-refused, is-accepted, refused-end}
 use Rattle.sheet.proofs.Tests.{test}
 use Rattle.sheet.specs.Walk.{opens, found, heads, rows}
-use Rattle.sheet.specs.From.{AtLine, Opens, here}
+use Rattle.sheet.specs.From.{AtLine, Opens, Tried, here}
 
 -- a sheet starts with a line
 pub start-line : (s : List ℕ) → length s ≤ 65536 → AtLine s start
@@ -105,9 +108,9 @@ module _ (s : List ℕ) (p : Point) where
     heads-at-blank e = rw (lines-from s p) (heads-blank kindOf on (here s p) (linesPast s p) e)
 
     module _ (z : lineAt s p .end ≡ 0 → ⊥) where
-      pub heads-prose : (k : ℕ) → Refused k ≡ headAt s p on false → heads kindOf on (linesFrom s p) ≡ heads kindOf on (linesFrom s (after s p))
+      pub heads-prose : (headRefusal kindOf on false (lineAt s p) (lineAt s (after s p)) ≡ 0 → ⊥) → heads kindOf on (linesFrom s p) ≡ heads kindOf on (linesFrom s (after s p))
       unfolding heads
-      heads-prose k h = rw (lines-from s p, past-more z, lines-from s (after s p), opens-no kindOf on (here s p) (here s (after s p)) (is-refused s p on false k h .1))
+      heads-prose h = rw (lines-from s p, past-more z, lines-from s (after s p), opens-no kindOf on (here s p) (here s (after s p)) h)
 
       heads-open : opens kindOf on (here s p) (here s (after s p)) ≡ true
           → heads kindOf on (linesFrom s p) ≡ found kindOf on (here s p) (here s (after s p)) (linesPast s (after s p)) ∷ rows kindOf on (linesPast s (after s p))
@@ -121,3 +124,25 @@ opened-here s on p q o h i e f =
     let z = refused-end on false (lineAt s q) (lineAt s (after s q)) (a .1) in
     let k = opens-yes kindOf on (here s q) (here s (after s q)) (a .1) in
     record { at = h; onward = i; ended = z; parts = a .0; opened = k; tables = sym e ∙ heads-open s q on z k }
+
+-- ## A line is tried as a head
+
+pub tried : (s : List ℕ) (on : Bool) (p : Point) (r : Answer) → r ≡ headAt s p on false → Tried s on p r
+tried s on p (Accepted o) e = e
+tried s on p (Refused k) e = is-refused s p on false k e .1
+
+-- it is none where the next line is no delimiter row
+no-head : (on : Bool) (l d : Line) → isDelimiterRow kindOf on (d .body) ≡ false → headRefusal kindOf on false l d ≡ 0 → ⊥
+no-head on l d e z = go (permitted kindOf on (l .body)) (eqb (l .end) 0 || loneDivider (solid (rowPieces kindOf false (l .body)))) (rw e at z)
+  where
+    go : (t u : Bool) → _≡_ {A = ℕ} (cond (not t) 3 (cond u 4 6)) 0 → ⊥
+    go false u f = omega arith
+    go true true f = omega arith
+    go true false f = omega arith
+
+bad : (t : Bool) (n : ℕ) (q : Point) → NoValues ≡ cond t (Count n q) NoValues → t ≡ false
+bad true n q e = absurd (let z : _≡_ {A = ℕ} 0 1 = cc in omega arith)
+bad false n q e = refl
+
+pub tried-none : (s : List ℕ) (on : Bool) (p d : Point) → d ≡ after s p → NoValues ≡ delimiterAt on d (restOf s d) → headRefusal kindOf on false (lineAt s p) (lineAt s (after s p)) ≡ 0 → ⊥
+tried-none s on p d e f = no-head on (lineAt s p) (lineAt s (after s p)) (bad (isDelimiterRow kindOf on (restOf s (after s p))) _ _ (rw e at f))

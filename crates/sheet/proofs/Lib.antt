@@ -13,6 +13,7 @@ pub mod Types
 pub mod Tabled
 pub mod Sheets
 pub mod Lists
+pub mod Named
 pub mod Alike
 pub mod Walks
 pub mod Split

@@ -2,10 +2,10 @@
 -- Assumes nothing.
 use Prim.Native.Nat.{ℕ, zero, suc, _≤_, _<_}
 use mathlib.Core.Path.{_≡_, refl, ap, sym, _∙_}
-use mathlib.Core.Bool.{Bool, true, false, cond, _&&_, true≢false}
+use mathlib.Core.Bool.{Bool, true, false, cond, _&&_}
 use mathlib.Core.List.{List, [], _∷_}
 use native.Mathlib.Omega.{arith}
-use borrow.Author.Tests.{eq-eqb, ne-eqb, ltb-true, ltb-false, leb-true, le-ltb, lt-ltb}
+use borrow.Author.Tests.{eq-eqb, ne-eqb, ltb-true, ltb-false, leb-true, le-leb, le-ltb, lt-ltb}
 use lib.Dec.{eqb, leb, ltb}
 use lib.ListN.{length, take, replicate}
 use lib.Seq.{take-append-seam}
@@ -24,9 +24,10 @@ use Rattle.sheet.specs.declared.calls.Verdict.{Verdict}
 use Rattle.sheet.specs.Walk.{Found, tables, rawOf, resolvedOf, alignedOf}
 use Rattle.sheet.specs.Stream.{Walk, Seek, Done, placeOf, walkAt, nextOf, stepsOf, Good}
 use Rattle.sheet.specs.Counting.{countsOf}
-use Rattle.sheet.specs.Aligning.{zeros, alignedInto}
+use Rattle.sheet.specs.Aligning.{zeros, alignedInto, keptIf}
 use Rattle.sheet.specs.Calls.{longRefusal, resultRefusal, alignRefusal, sheetNumber, sheetOf, sheetRaw, sheetResults, sheetAligned, noPlan, planOf, noVerdict, acceptOf, resolvedAs, judgeOf, leastOf}
 use Rattle.sheet.proofs.From.{start-line}
+use Rattle.sheet.proofs.Slots.{into-length}
 use Rattle.sheet.proofs.Coming.{coming, coming-start, steps-slots}
 use Rattle.sheet.proofs.Tabled.{answer-is, slots-are}
 
@@ -68,13 +69,15 @@ module _ (s : List ℕ) (on : Bool) (n m k : ℕ) where
   abbrev verdict : Verdict
   verdict = judgeOf plan (resolveAnswer list m) n m k
 
+  abbrev slots : List ℕ
+  slots = alignedInto (leb (length s) 65536) (alignedOf fs) k
+
   -- the answer and every slot
   pub record Right : Type 0 where
     pub answer : verdict .answer ≡ sheetOf s on n m k
     pub events : clearedFrom (verdict .raw) raw ≡ sheetRaw s on n m k
     pub results : clearedFrom (verdict .results) (resolveSlots list m) ≡ sheetResults s on n m k
-    pub aligned : alignedInto (verdict .go) (alignedOf fs) k ≡ sheetAligned s on n m k
-    pub short : verdict .go ≡ true → length s ≤ 65536
+    pub aligned : keptIf (verdict .go) slots ≡ sheetAligned s on n m k
 
   -- a verdict that refuses, and the number that it refuses by
   refused : (q : ℕ) → (q ≡ 0 → ⊥) → verdict ≡ noVerdict q → sheetNumber s on n m k ≡ q → Right
@@ -84,8 +87,7 @@ module _ (s : List ℕ) (on : Bool) (n m k : ℕ) where
         answer = rw (v, e, f);
         events = rw (v, e, f) (cleared-blank raw n (steps-length s on n (walkAt (plan .walk))));
         results = rw (v, e, f) (cleared-blank (resolveSlots list m) m (results-length list m));
-        aligned = rw (v, e, f);
-        short = λ x. absurd (true≢false (sym x ∙ ap (λ (w : Verdict). w .go) v));
+        aligned = rw (v, e, f) (ap zeros (into-length (alignedOf fs) k (leb (length s) 65536)));
       }
     where
       eqb-no : eqb q 0 ≡ false
@@ -126,8 +128,7 @@ module _ (s : List ℕ) (on : Bool) (n m k : ℕ) where
           answer = rw (v, e, b);
           events = rw (v, e, b) (cleared-none n raw (omega (arith, steps-length s on n (walkAt (plan .walk)))) ∙ raw-is);
           results = rw (v, e, b) (cleared-none m (resolveSlots list m) (omega (arith, results-length list m)) ∙ results-are ∙ rw a);
-          aligned = rw (v, e, b);
-          short = λ x. h;
+          aligned = rw (v, e, b, le-leb (length s) 65536 h);
         }
 
     goes-on : Right

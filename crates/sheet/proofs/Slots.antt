@@ -3,14 +3,17 @@
 use Prim.Native.Nat.{ℕ, zero, suc, _+_, _-_, _≤_, _<_}
 use mathlib.Core.Path.{_≡_, ap, sym, _∙_}
 use mathlib.Core.List.{List, [], _∷_, _++_, append-assoc, append-nil}
-use mathlib.Core.Bool.{Bool, true, false}
+use mathlib.Core.Bool.{Bool, true, false, _&&_, false≢true}
 use native.Mathlib.Nat.{add-zero, add-suc, suc-add}
 use native.Mathlib.Numerals.{add-one}
 use native.Mathlib.Omega.{arith}
+use borrow.Author.Tests.{le-leb, lt-leb, leb-true}
+use lib.Dec.{leb}
 use borrow.Rule.Slice.PartMut.{midOf, putMid}
 use lib.ListN.{length, take, drop, set, take-append-drop, length-take, length-append, length-drop, drop-of-length-le, length-replicate, replicate-append-replicate}
 use lib.Seq.{take-suc-set, append-snoc, drop-set-lt, drop-drop, take-at, drop-at, take-all}
 use Rattle.sheet.specs.Aligning.{filled, zeros, alignedInto, Written}
+use Rattle.sheet.proofs.Tests.{test}
 
 pub filled-none : (c : ℕ) (out : List ℕ) → filled c [] out ≡ out
 filled-none c out = rw add-zero (take-append-drop c out)
@@ -80,18 +83,20 @@ slots-turn n m xs zs ws out next h e f g = rw (e, f, g) (filled-then n xs out h 
 
 -- ## All slots
 
-module _ (go : Bool) (xs : List ℕ) (n : ℕ) where
-  pub into-off : (ys : List ℕ) → go ≡ false → ys ≡ zeros n → ys ≡ alignedInto go xs n
-  into-off ys f e = rw f e
+module _ (xs : List ℕ) (n : ℕ) where
+  -- they have been cleared, and then some alignments are written if they fit
+  pub into-all : (out ys : List ℕ) → out ≡ zeros n → Written xs out ys → length xs ≤ n → ys ≡ alignedInto true xs n
+  into-all out ys e w h = rw (le-leb (length xs) n h) (w (omega (arith, h, ap length e, zeros-length n)) ∙ ap (filled 0 xs) e ∙ filled-zeros xs n)
 
-  module _ (f : go ≡ true) (out : List ℕ) (e : out ≡ zeros n) (fit : Bool) where
-    len : length out ≡ n
-    len = ap length e ∙ zeros-length n
+  pub into-short : (ys : List ℕ) → n < length xs → ys ≡ zeros n → ys ≡ alignedInto true xs n
+  into-short ys h e = rw (lt-leb (length xs) n h) e
 
-    pub into-short : (ys slots : List ℕ) → Written xs out fit ys → fit ≡ false → length ys ≡ length out → slots ≡ zeros (length ys) → slots ≡ alignedInto go xs n
-    into-short ys slots w t l h = rw (f, ← len, ← w .0, t, ← l) h
+  pub into-length : (go : Bool) → length (alignedInto go xs n) ≡ n
+  into-length go = test (go && leb (length xs) n) (λ e. rw e (go-on (and-right go (leb (length xs) n) e))) (λ e. rw e (zeros-length n))
+    where
+      and-right : (a b : Bool) → a && b ≡ true → b ≡ true
+      and-right true b e = e
+      and-right false b e = absurd (false≢true e)
 
-    pub into-all : (ys : List ℕ) → Written xs out fit ys → fit ≡ true → ys ≡ alignedInto go xs n
-    into-all ys w t =
-        let a = sym (w .0) ∙ t in
-        rw (f, rw len at a) (w .1 t ∙ ap (filled 0 xs) e ∙ filled-zeros xs n)
+      go-on : leb (length xs) n ≡ true → length (xs ++ zeros (n - length xs)) ≡ n
+      go-on e = omega (arith, length-append xs (zeros (n - length xs)), zeros-length (n - length xs), leb-true (length xs) n e)

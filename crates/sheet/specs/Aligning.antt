@@ -1,8 +1,8 @@
 -- Alignments that are written to lent slots.
-use Prim.Native.Nat.{ℕ, _+_, _-_}
+use Prim.Native.Nat.{ℕ, _+_, _-_, _≤_}
 use mathlib.Core.Path.{_≡_}
 use mathlib.Core.List.{List, [], _∷_, _++_}
-use mathlib.Core.Bool.{Bool, true, cond, _&&_}
+use mathlib.Core.Bool.{Bool, cond, _&&_}
 use lib.Dec.{eqb, leb}
 use lib.ListN.{length, take, drop, replicate}
 use Rattle.tokenizer.specs.Bytes.{kindOf}
@@ -59,6 +59,10 @@ zeros n = replicate n 0
 abbrev pub alignedInto : Bool → List ℕ → ℕ → List ℕ
 alignedInto go xs n = cond (go && leb (length xs) n) (xs ++ zeros (n - length xs)) (zeros n)
 
--- whether some alignments fit the slots `out`, and if so that they are written to the first of them
-abbrev pub Written : List ℕ → List ℕ → Bool → List ℕ → Type 0
-Written xs out fit slots = (fit ≡ leb (length xs) (length out)) × (fit ≡ true → slots ≡ filled 0 xs out)
+-- where some alignments fit the slots `out`, they are written to the first of them
+abbrev pub Written : List ℕ → List ℕ → List ℕ → Type 0
+Written xs out slots = length xs ≤ length out → slots ≡ filled 0 xs out
+
+-- slots that stay as they are, or become zero
+abbrev pub keptIf : Bool → List ℕ → List ℕ
+keptIf keep xs = cond keep xs (zeros (length xs))

@@ -99,7 +99,7 @@ abbrev pub resolvedAs : Counts → Resolved → ℕ → ℕ → ℕ → Verdict
 resolvedAs c (resolve.Refused q) n m k = noVerdict q
 resolvedAs c (resolve.Accepted r) n m k = acceptOf c r n m k
 
--- the answer, whether alignments are wanted, and how many slots stay as they are
+-- the answer, whether the alignments stay, and how many slots stay as they are
 unfoldable pub judgeOf : Plan → Resolved → ℕ → ℕ → ℕ → Verdict
 judgeOf p r n m k = cond (eqb (p .refusal) 0) (resolvedAs (p .counts) r n m k) (noVerdict (p .refusal))
 

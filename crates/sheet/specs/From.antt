@@ -2,7 +2,7 @@
 use Prim.Native.Nat.{ℕ, _≤_, _<_}
 use mathlib.Core.Path.{_≡_}
 use mathlib.Core.List.{List, [], _∷_}
-use mathlib.Core.Bool.{Bool, true}
+use mathlib.Core.Bool.{Bool, true, false}
 use Rattle.tokenizer.specs.declared.event.Point.{Point}
 use Rattle.tokenizer.specs.declared.lines.Further.{Further}
 use Rattle.tokenizer.specs.declared.lines.Further.the-variants.{More, Last}
@@ -10,7 +10,10 @@ use Rattle.tokenizer.specs.Bytes.{kindOf}
 use Rattle.tokenizer.specs.Places.{Placed, linesFrom, linesPast}
 use Rattle.tokenizer.specs.Moves.{lineAt, after, Inside}
 use Rattle.gfm_table.specs.declared.heads.Opened.{Opened}
-use Rattle.gfm_table.specs.Answers.{openedAt}
+use Rattle.gfm_table.specs.declared.heads.Answer.{Answer}
+use Rattle.gfm_table.specs.declared.heads.Answer.the-variants.{Refused, Accepted}
+use Rattle.gfm_table.specs.Heads.{headRefusal}
+use Rattle.gfm_table.specs.Answers.{openedAt, headAt}
 use Rattle.sheet.specs.declared.seek.Next.{Next}
 use Rattle.sheet.specs.declared.seek.Next.the-variants.{Head, Nothing}
 use Rattle.sheet.specs.Walk.{Found, opens, found, heads, rows}
@@ -34,6 +37,11 @@ pub record Opens (s : List ℕ) (on : Bool) (p q : Point) (o : Opened) : Type 0 
   pub tables :
       heads kindOf on (linesFrom s p)
       ≡ found kindOf on (here s q) (here s (after s q)) (linesPast s (after s q)) ∷ rows kindOf on (linesPast s (after s q))
+
+-- a line that is tried as a head: what it opens, or that one of questions 3 to 7 is answered no
+abbrev pub Tried : List ℕ → Bool → Point → Answer → Type 0
+Tried s on p (Accepted o) = Accepted o ≡ headAt s p on false
+Tried s on p (Refused k) = headRefusal kindOf on false (lineAt s p) (lineAt s (after s p)) ≡ 0 → ⊥
 
 -- the first head from a line on, or that there is none
 abbrev pub Finds : List ℕ → Bool → Point → Next → Type 0

@@ -2,16 +2,18 @@
 use Prim.Native.Nat.{ℕ, zero, suc, _≤_}
 use mathlib.Core.Path.{_≡_}
 use mathlib.Core.List.{List, [], _∷_}
-use mathlib.Core.Bool.{Bool, cond}
+use mathlib.Core.Bool.{Bool, false, cond}
 use lib.Dec.{eqb}
 use Rattle.tokenizer.specs.declared.event.Point.{Point}
 use Rattle.tokenizer.specs.declared.event.Event.{Event}
 use Rattle.tokenizer.specs.Bytes.{kindOf}
-use Rattle.tokenizer.specs.Points.{start}
-use Rattle.tokenizer.specs.Events.{LineEnding, blankEvent, enter, pointOf}
-use Rattle.tokenizer.specs.Lines.{blank}
+use Rattle.tokenizer.specs.Points.{start, past}
+use Rattle.tokenizer.specs.Events.{SpaceOrTab, LineEnding, Data, GfmTableCellDivider, GfmTableDelimiterMarker, GfmTableDelimiterFiller, blankEvent, enter, pointOf}
+use Rattle.tokenizer.specs.Lines.{blank, indent}
 use Rattle.tokenizer.specs.Places.{linesFrom}
-use Rattle.tokenizer.specs.Moves.{restOf, lineAt, after, Inside}
+use Rattle.tokenizer.specs.Moves.{restOf, lineAt, after, overAt, Inside}
+use Rattle.gfm_table.specs.Machine.{dataRun}
+use Rattle.gfm_table.specs.Delimiters.{fillerRun}
 use Rattle.gfm_table.specs.declared.stream.Part.{Part}
 use Rattle.gfm_table.specs.declared.stream.Part.the-variants.{Head, Delimiter, Body}
 use Rattle.gfm_table.specs.declared.stream.Cursor.{Cursor}
@@ -101,20 +103,20 @@ Good s Done = 0 ≤ 0
 
 -- ## The same as the code has it, in one record
 
--- a place that is not inside a piece
-abbrev pub unnamed : Phase → Part → Point → Place
-unnamed h t p = record { phase = h; part = t; name = 0; at = p }
+-- a place of the walk
+abbrev pub placed : Phase → Part → ℕ → Point → Place
+placed h t n p = record { phase = h; part = t; name = n; vs = p .vs; line = p .line; column = p .column; index = p .index }
 
 -- where a walk is
 abbrev pub placeOf : Walk → Place
-placeOf (Seek p) = unnamed phase.Seek Body p
-placeOf (In (Begin p)) = unnamed phase.Begin Body p
-placeOf (In (Enter t p)) = unnamed phase.Enter t p
-placeOf (In (Between t p)) = unnamed phase.Between t p
-placeOf (In (Entered t n p)) = record { phase = phase.Entered; part = t; name = n; at = p }
-placeOf (In (Ended t p)) = unnamed phase.Ended t p
-placeOf (In (Broken t p)) = unnamed phase.Broken t p
-placeOf Done = unnamed phase.Done Body start
+placeOf (Seek p) = placed phase.Seek Body 0 p
+placeOf (In (Begin p)) = placed phase.Begin Body 0 p
+placeOf (In (Enter t p)) = placed phase.Enter t 0 p
+placeOf (In (Between t p)) = placed phase.Between t 0 p
+placeOf (In (Entered t n p)) = placed phase.Entered t n p
+placeOf (In (Ended t p)) = placed phase.Ended t 0 p
+placeOf (In (Broken t p)) = placed phase.Broken t 0 p
+placeOf Done = placed phase.Done Body 0 start
 
 -- the walk that a phase, a line, a name and a point tell
 abbrev pub walkIn : Phase → Part → ℕ → Point → Walk
@@ -129,7 +131,7 @@ walkIn phase.Done t n p = Done
 
 -- the walk that is at a place
 abbrev pub walkAt : Place → Walk
-walkAt w = walkIn (w .phase) (w .part) (w .name) (w .at)
+walkAt w = walkIn (w .phase) (w .part) (w .name) (record { line = w .line; column = w .column; index = w .index; vs = w .vs })
 
 -- a step
 abbrev pub walkedOf : WalkStep → Walked
@@ -138,3 +140,26 @@ walkedOf r = record { event = r .event; next = placeOf (r .next) }
 -- the step from a place
 abbrev pub stepOf : List ℕ → Bool → Place → Walked
 stepOf s on w = walkedOf (nextOf s on (walkAt w))
+
+-- ## The next piece, by its first byte
+
+-- the name of the piece of a head line or a body row that begins with a byte of the kind k
+abbrev pub textName : ℕ → ℕ
+textName k = cond (eqb k 1) SpaceOrTab (cond (eqb k 3) GfmTableCellDivider Data)
+
+-- of a delimiter row
+abbrev pub markName : ℕ → ℕ
+markName k = cond (eqb k 1) SpaceOrTab (cond (eqb k 3) GfmTableCellDivider (cond (eqb k 6) GfmTableDelimiterMarker GfmTableDelimiterFiller))
+
+-- of any row
+abbrev pub pieceName : Part → ℕ → ℕ
+pieceName Head k = textName k
+pieceName Delimiter k = markName k
+pieceName Body k = textName k
+
+-- where a piece that begins at a point ends
+abbrev pub pieceEnd : List ℕ → ℕ → Point → Point
+pieceEnd s n p =
+    cond (eqb n SpaceOrTab) (past p (indent kindOf (restOf s p)))
+    (cond (eqb n Data) (past p (dataRun kindOf false (restOf s p)))
+    (cond (eqb n GfmTableDelimiterFiller) (past p (fillerRun kindOf (restOf s p))) (overAt s p)))

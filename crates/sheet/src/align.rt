@@ -1,9 +1,5 @@
-// The alignments of a sheet's tables, written to lent slots.
-use crate::seek::Next;
-use crate::seek::body_end;
-use crate::seek::next_head;
+// The alignments of a table, written to lent slots.
 use tokenizer::event::Point;
-use tokenizer::lines::Further;
 use tokenizer::moves::kind_at;
 ghost use mathlib.Core.Path.{_≡_};
 ghost use mathlib.Core.Bool.{cond};
@@ -13,8 +9,7 @@ ghost use lib.ListN.{length};
 ghost use Rattle.tokenizer.specs.Bytes.{kindOf};
 ghost use Rattle.tokenizer.specs.Moves.{restOf, Inside};
 ghost use Rattle.gfm_table.specs.Heads.{alignments, values};
-ghost use Rattle.sheet.specs.Walk.{tables, alignedOf};
-ghost use Rattle.sheet.specs.Aligning.{lineFrom, alignsFrom, endsOver, scanned, alignBy, filled, zeros, alignedInto, Marked, Written};
+ghost use Rattle.sheet.specs.Aligning.{lineFrom, alignsFrom, endsOver, scanned, alignBy, filled, zeros, Marked};
 
 // One stretch of a delimiter row: the kinds of its first and last byte that is no whitespace, 1 where there is none, and its end.
 pub struct Ends {
@@ -152,40 +147,6 @@ pub fn align_line(s: &[u8], p: Point, slots: &mut [u8])
     align_rest(s, values_from(s, p.index as usize), slots);
 }
 
-// All tables' alignments, as far as they fit, and whether all do: what is left of the slots is lent on for the next table.
-pub fn align_tables(s: &[u8], on: bool, slots: &mut [u8]) -> bool
-    requires { ⌜ length (now s) ≤ 65536 ⌝ }
-    ensures { λ r. ⌜ Written (alignedOf (tables kindOf on (now (s .entry)))) (now (slots .entry)) r (now (slots .exit)) ⌝ }
-{
-    let mut p = Point::start();
-    let mut n: usize = 0;
-    loop {
-        match next_head(s, p, on) {
-            Next::Nothing => {
-                return true;
-            }
-            Next::Head(at, o) => {
-                let d = o.delimiter;
-                let e = o.end;
-                let k = o.cells as usize;
-                if slots.len() - n < k {
-                    return false;
-                }
-                align_line(s, d, &mut slots[n..]);
-                n += k;
-                match body_end(s, e) {
-                    Further::Last => {
-                        return true;
-                    }
-                    Further::More(q) => {
-                        p = q;
-                    }
-                }
-            }
-        }
-    }
-}
-
 // Every slot is zero.
 pub fn clear(slots: &mut [u8])
     ensures { λ _. ⌜ now (slots .exit) ≡ zeros (length (now (slots .entry))) ⌝ }
@@ -194,19 +155,5 @@ pub fn clear(slots: &mut [u8])
     while i < slots.len() {
         slots[i] = 0;
         i += 1;
-    }
-}
-
-// The alignments and then zeros, where they are wanted and fit; otherwise zeros.
-pub fn align_into(s: &[u8], on: bool, go: bool, slots: &mut [u8])
-    requires { ⌜ length (now s) ≤ 65536 ⌝ }
-    ensures { λ _. ⌜ now (slots .exit) ≡ alignedInto go (alignedOf (tables kindOf on (now (s .entry)))) (length (now (slots .entry))) ⌝ }
-{
-    clear(slots);
-    if go {
-        if align_tables(s, on, slots) {
-            return;
-        }
-        clear(slots);
     }
 }

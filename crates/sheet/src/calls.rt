@@ -1,8 +1,7 @@
 // What `sheet` answers: the parts of the call that look at no slot, and the thin ones that lend slots on.
-use crate::align::align_into;
 use crate::align::clear;
 use crate::count::Counts;
-use crate::count::count;
+use crate::count::count_into;
 use crate::stream::Place;
 use crate::stream::begin;
 use crate::stream::done;
@@ -10,14 +9,13 @@ use edit_map::resolve::Resolved;
 use edit_map::resolve::resolve;
 use tokenizer::event::Event;
 ghost use mathlib.Core.Path.{_≡_};
-ghost use mathlib.Core.Bool.{true};
 ghost use mathlib.Core.List.{_++_};
-ghost use Prim.Native.Nat.{_≤_};
+ghost use lib.Dec.{leb};
 ghost use lib.ListN.{length, take};
 ghost use Rattle.tokenizer.specs.Bytes.{kindOf};
 ghost use Rattle.edit_map.specs.Answers.{resolveAnswer, resolveSlots};
 ghost use Rattle.sheet.specs.Walk.{tables, alignedOf};
-ghost use Rattle.sheet.specs.Aligning.{alignedInto};
+ghost use Rattle.sheet.specs.Aligning.{alignedInto, keptIf};
 ghost use Rattle.sheet.specs.Calls.{noPlan, planOf, noVerdict, acceptOf, resolvedAs, judgeOf, leastOf};
 
 // A sheet is refused by a number, or accepted with the numbers of its tables, raw events, result events and alignments.
@@ -38,7 +36,7 @@ pub struct Plan {
     pub walk: Place,
 }
 
-// The answer, whether alignments are wanted, and how many raw and result slots stay as they are.
+// The answer, whether the alignments stay, and how many raw and result slots stay as they are.
 pub struct Verdict {
     pub answer: Sheet,
     pub go: bool,
@@ -62,14 +60,16 @@ pub fn no_plan(refusal: u8) -> Plan
     }
 }
 
-// Questions 1 and 9.
-pub fn sheet_plan(s: &[u8], on: bool, slots: usize) -> Plan
-    ensures { λ r. ⌜ r ≡ planOf (now (s .entry)) on slots ⌝ }
+// Questions 1 and 9. The alignments of a sheet that is not too long are written, where they fit.
+pub fn sheet_plan(s: &[u8], on: bool, slots: usize, alignments: &mut [u8]) -> Plan
+    ensures { λ r. ⌜ (r ≡ planOf (now (s .entry)) on slots)
+        × (now (alignments .exit) ≡ alignedInto (leb (length (now (s .entry))) 65536) (alignedOf (tables kindOf on (now (s .entry)))) (length (now (alignments .entry)))) ⌝ }
 {
     if 65536 < s.len() {
+        clear(alignments);
         return no_plan(1);
     }
-    let counts = count(s, on);
+    let counts = count_into(s, on, alignments);
     if slots < counts.raw as usize {
         return no_plan(9);
     }
@@ -148,13 +148,11 @@ pub fn judge(
     }
 }
 
-// The alignments of a sheet where they are wanted, else zeros.
-pub fn align_sheet(s: &[u8], on: bool, go: bool, slots: &mut [u8])
-    requires { ⌜ (go ≡ true → length (now s) ≤ 65536) ⌝ }
-    ensures { λ _. ⌜ now (slots .exit) ≡ alignedInto go (alignedOf (tables kindOf on (now (s .entry)))) (length (now (slots .entry))) ⌝ }
+// The slots stay as they are, or become zero.
+pub fn clear_unless(slots: &mut [u8], keep: bool)
+    ensures { λ _. ⌜ now (slots .exit) ≡ keptIf keep (now (slots .entry)) ⌝ }
 {
-    if go {
-        align_into(s, on, true, slots);
+    if keep {
         return;
     }
     clear(slots);

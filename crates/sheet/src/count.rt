@@ -1,19 +1,24 @@
-// The counts of a sheet: tables, raw events and alignments, in one pass.
+// The pass over a sheet that counts its tables, raw events and alignments, and writes the alignments.
+use crate::align::align_line;
+use crate::align::clear;
 use crate::seek::Next;
+use crate::seek::line_behind;
 use crate::seek::next_head;
 use gfm_table::delimiter::delimiter_count;
 use gfm_table::heads::Opened;
-use gfm_table::states::row;
+use gfm_table::pieces::pieces_from;
 use tokenizer::event::Point;
 use tokenizer::lines::Further;
 use tokenizer::lines::is_blank;
-use tokenizer::lines::line_after;
+use tokenizer::lines::line_stop;
 ghost use mathlib.Core.Path.{_≡_};
+ghost use mathlib.Core.Bool.{true};
 ghost use Prim.Native.Nat.{_≤_};
 ghost use lib.ListN.{length};
 ghost use Rattle.tokenizer.specs.Bytes.{kindOf};
 ghost use Rattle.tokenizer.specs.Moves.{Inside};
-ghost use Rattle.sheet.specs.Walk.{tables};
+ghost use Rattle.sheet.specs.Walk.{tables, alignedOf};
+ghost use Rattle.sheet.specs.Aligning.{alignedInto, Written};
 ghost use Rattle.sheet.specs.Counting.{countsOf, bodyEvents, tableEvents, Reads};
 
 // How many tables, raw events and alignments a sheet has.
@@ -35,9 +40,10 @@ pub fn body_after(s: &[u8], p: Point) -> Read
     ensures { λ r. ⌜ Reads (now (s .entry)) p (bodyEvents (now (s .entry)) p) r ⌝ }
 {
     let mut q = p;
+    let mut e = line_stop(s, p.index as usize);
     let mut n: u32 = 0;
     loop {
-        match line_after(s, q) {
+        match line_behind(s, q, e) {
             Further::Last => {
                 return Read {
                     events: n,
@@ -51,9 +57,10 @@ pub fn body_after(s: &[u8], p: Point) -> Read
                         next: Further::More(t),
                     };
                 }
-                let r = row(s, t);
+                let r = pieces_from(s, t.index as usize);
                 n = n + (4 + 2 * r.count);
-                q = r.at;
+                e = r.end;
+                q = t;
             }
         }
     }
@@ -75,10 +82,10 @@ pub fn table_after(s: &[u8], o: Opened) -> Read
     }
 }
 
-// The counts of a sheet.
-pub fn count(s: &[u8], on: bool) -> Counts
+// The counts of a sheet, and its tables' alignments as far as they fit: what is left of the slots is lent on for the next table.
+pub fn count(s: &[u8], on: bool, slots: &mut [u8]) -> Counts
     requires { ⌜ length (now s) ≤ 65536 ⌝ }
-    ensures { λ r. ⌜ r ≡ countsOf (tables kindOf on (now (s .entry))) ⌝ }
+    ensures { λ r. ⌜ (r ≡ countsOf (tables kindOf on (now (s .entry)))) × Written (alignedOf (tables kindOf on (now (s .entry)))) (now (slots .entry)) (now (slots .exit)) ⌝ }
 {
     let mut c = Counts {
         tables: 0,
@@ -92,6 +99,11 @@ pub fn count(s: &[u8], on: bool) -> Counts
                 return c;
             }
             Next::Head(at, o) => {
+                let d = o.delimiter;
+                let n = c.aligned as usize;
+                if n + o.cells as usize <= slots.len() {
+                    align_line(s, d, &mut slots[n..]);
+                }
                 let t = table_after(s, o);
                 c = Counts {
                     tables: c.tables + 1,
@@ -110,4 +122,17 @@ pub fn count(s: &[u8], on: bool) -> Counts
             }
         }
     }
+}
+
+// The counts of a sheet, and in the slots its tables' alignments and then zeros; only zeros where they do not fit.
+pub fn count_into(s: &[u8], on: bool, slots: &mut [u8]) -> Counts
+    requires { ⌜ length (now s) ≤ 65536 ⌝ }
+    ensures { λ r. ⌜ (r ≡ countsOf (tables kindOf on (now (s .entry)))) × (now (slots .exit) ≡ alignedInto true (alignedOf (tables kindOf on (now (s .entry)))) (length (now (slots .entry)))) ⌝ }
+{
+    clear(slots);
+    let c = count(s, on, slots);
+    if slots.len() < c.aligned as usize {
+        clear(slots);
+    }
+    c
 }

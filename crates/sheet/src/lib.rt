@@ -1,6 +1,6 @@
 // The walk over a whole sheet.
 use calls::Sheet;
-use calls::align_sheet;
+use calls::clear_unless;
 use calls::judge;
 use calls::planned;
 use calls::resolve_first;
@@ -31,13 +31,13 @@ pub fn sheet(
         × ((now (results .exit) ≡ sheetResults (now (sheet .entry)) «code_indented» (length (now (raw .entry))) (length (now (results .entry))) (length (now (alignments .entry))))
         × (now (alignments .exit) ≡ sheetAligned (now (sheet .entry)) «code_indented» (length (now (raw .entry))) (length (now (results .entry))) (length (now (alignments .entry)))))) ⌝ }
 {
-    let plan = sheet_plan(sheet, code_indented, raw.len());
+    let plan = sheet_plan(sheet, code_indented, raw.len(), alignments);
     let walk = plan.walk;
     fill(sheet, code_indented, walk, raw);
     let n = planned(plan);
     let r = resolve_first(raw, n, results);
     let v = judge(plan, r, raw.len(), results.len(), alignments.len());
-    align_sheet(sheet, code_indented, v.go, alignments);
+    clear_unless(alignments, v.go);
     clear_from(raw, v.raw);
     clear_from(results, v.results);
     v.answer

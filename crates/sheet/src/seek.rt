@@ -1,18 +1,34 @@
-// The next head of a sheet, and the end of a table's body.
+// The next head of a sheet, and the line behind a line.
+use gfm_table::delimiter::Values;
+use gfm_table::delimiter::head_delimiter_start;
 use gfm_table::heads::Answer;
 use gfm_table::heads::Opened;
 use gfm_table::heads::head_at;
 use tokenizer::event::Point;
 use tokenizer::lines::Further;
-use tokenizer::lines::is_blank;
 use tokenizer::lines::line_after;
-ghost use Rattle.tokenizer.specs.Moves.{Inside};
-ghost use Rattle.sheet.specs.From.{AtLine, Finds, Onward};
+use tokenizer::lines::line_end;
+ghost use mathlib.Core.Path.{_≡_};
+ghost use Prim.Native.Nat.{_+_};
+ghost use lib.ListN.{length};
+ghost use Rattle.tokenizer.specs.Moves.{restOf, after, furtherOf, Inside};
+ghost use Rattle.sheet.specs.From.{AtLine, Tried, Finds};
 
 // A head: where its line starts, and what it opens.
 pub enum Next {
     Head(Point, Opened),
     Nothing,
+}
+
+// A head at a line. It is tried only where the next line, which starts at d, is a delimiter row: few lines are.
+pub fn head_above(s: &[u8], p: Point, d: Point, on: bool) -> Answer
+    requires { ⌜ AtLine (now s) p × AtLine (now s) d × (d ≡ after (now s) p) ⌝ }
+    ensures { λ r. ⌜ Tried (now (s .entry)) on p r ⌝ }
+{
+    match head_delimiter_start(s, d, on) {
+        Values::Bad => Answer::Refused(6),
+        Values::Count(n, e) => head_at(s, p, on, false),
+    }
 }
 
 // The first head from a line on: one is tried at each line.
@@ -22,15 +38,15 @@ pub fn next_head(s: &[u8], p: Point, on: bool) -> Next
 {
     let mut q = p;
     loop {
-        match head_at(s, q, on, false) {
-            Answer::Accepted(o) => {
-                return Next::Head(q, o);
+        match line_after(s, q) {
+            Further::Last => {
+                return Next::Nothing;
             }
-            Answer::Refused(k) => match line_after(s, q) {
-                Further::Last => {
-                    return Next::Nothing;
+            Further::More(d) => match head_above(s, q, d, on) {
+                Answer::Accepted(o) => {
+                    return Next::Head(q, o);
                 }
-                Further::More(d) => {
+                Answer::Refused(k) => {
                     q = d;
                 }
             },
@@ -38,23 +54,19 @@ pub fn next_head(s: &[u8], p: Point, on: bool) -> Next
     }
 }
 
-// The blank line that ends the body after a line of a table, if there is one.
-pub fn body_end(s: &[u8], p: Point) -> Further
-    requires { ⌜ Inside (now s) p ⌝ }
-    ensures { λ r. ⌜ Onward (now (s .entry)) p r ⌝ }
+// The line after the one of a point whose bytes end at a place.
+pub fn line_behind(s: &[u8], p: Point, end: usize) -> Further
+    requires { ⌜ Inside (now s) p × (end ≡ p .index + length (restOf (now s) p)) ⌝ }
+    ensures { λ r. ⌜ r ≡ furtherOf (now (s .entry)) p ⌝ }
 {
-    let mut q = p;
-    loop {
-        match line_after(s, q) {
-            Further::Last => {
-                return Further::Last;
-            }
-            Further::More(t) => {
-                if is_blank(s, t) {
-                    return Further::More(t);
-                }
-                q = t;
-            }
-        }
+    let n = line_end(s, end);
+    if n == 0 {
+        return Further::Last;
     }
+    Further::More(Point {
+        line: p.line + 1,
+        column: 1,
+        index: end as u32 + n,
+        vs: 0,
+    })
 }

@@ -1,9 +1,9 @@
 // The raw events of a sheet, one at a time: the walk over its lines, and inside a table the pieces of its rows.
 use crate::seek::Next;
 use crate::seek::next_head;
+use gfm_table::delimiter::filler_end;
+use gfm_table::states::data_end;
 use gfm_table::stream::Part;
-use gfm_table::stream::Pieced;
-use gfm_table::stream::piece_at;
 use gfm_table::stream::row_name;
 use tokenizer::event::Event;
 use tokenizer::event::Name;
@@ -11,15 +11,19 @@ use tokenizer::event::Point;
 use tokenizer::lines::Further;
 use tokenizer::lines::is_blank;
 use tokenizer::lines::line_after;
+use tokenizer::moves::ahead;
+use tokenizer::moves::over;
+use tokenizer::moves::space_end;
 ghost use mathlib.Core.Path.{_≡_};
 ghost use mathlib.Core.List.{[]};
 ghost use mathlib.Core.Bool.{false};
+ghost use Prim.Native.Nat.{_<_};
 ghost use lib.ListN.{length};
 ghost use Rattle.tokenizer.specs.Points.{start};
 ghost use Rattle.tokenizer.specs.Moves.{restOf, Inside};
 ghost use Rattle.gfm_table.specs.Stream as Table;
 ghost use Rattle.sheet.specs.From.{AtLine};
-ghost use Rattle.sheet.specs.Stream.{Seek, Done, unnamed, placeOf, walkAt, walkedOf, noMore, headsFrom, seekOf, onwardOf, inside, endedOf, stepOf, stepsOf, Good};
+ghost use Rattle.sheet.specs.Stream.{Seek, Done, placed, placeOf, walkAt, textName, markName, pieceName, pieceEnd, walkedOf, noMore, headsFrom, seekOf, onwardOf, inside, endedOf, stepOf, stepsOf, Good};
 
 // Looking for a table, before a head, before a row, between two pieces, inside a piece, at the end of a row, inside the line end before
 // a row, or done.
@@ -34,12 +38,16 @@ pub enum Phase {
     Done,
 }
 
-// Where the walk is: a phase, with the line, the name of a piece and the point that it is about.
+// Where the walk is: a phase, with the line, the name of a piece and the point that it is about. No byte of it is unused, so that none
+// has to be copied for nothing.
 pub struct Place {
     pub phase: Phase,
     pub part: Part,
     pub name: u8,
-    pub at: Point,
+    pub vs: u8,
+    pub line: u32,
+    pub column: u32,
+    pub index: u32,
 }
 
 pub struct Walked {
@@ -47,15 +55,18 @@ pub struct Walked {
     pub next: Place,
 }
 
-// A place that is not inside a piece.
-pub fn unnamed(phase: Phase, part: Part, at: Point) -> Place
-    ensures { λ r. ⌜ r ≡ unnamed phase part at ⌝ }
+// A place of the walk.
+pub fn placed(phase: Phase, part: Part, name: u8, p: Point) -> Place
+    ensures { λ r. ⌜ r ≡ placed phase part name p ⌝ }
 {
     Place {
         phase,
         part,
-        name: 0,
-        at,
+        name,
+        vs: p.vs,
+        line: p.line,
+        column: p.column,
+        index: p.index,
     }
 }
 
@@ -63,14 +74,14 @@ pub fn unnamed(phase: Phase, part: Part, at: Point) -> Place
 pub fn begin() -> Place
     ensures { λ r. ⌜ r ≡ placeOf (Seek start) ⌝ }
 {
-    unnamed(Phase::Seek, Part::Body, Point::start())
+    placed(Phase::Seek, Part::Body, 0, Point::start())
 }
 
 // Behind the last table.
 pub fn done() -> Place
     ensures { λ r. ⌜ r ≡ placeOf Done ⌝ }
 {
-    unnamed(Phase::Done, Part::Body, Point::start())
+    placed(Phase::Done, Part::Body, 0, Point::start())
 }
 
 // Nothing more comes.
@@ -91,7 +102,7 @@ pub fn step_seek(s: &[u8], on: bool, p: Point) -> Walked
     match next_head(s, p, on) {
         Next::Head(q, o) => Walked {
             event: Event::enter(Name::GfmTableHead, q),
-            next: unnamed(Phase::Enter, Part::Head, q),
+            next: placed(Phase::Enter, Part::Head, 0, q),
         },
         Next::Nothing => no_more(),
     }
@@ -110,7 +121,7 @@ pub fn step_onward(s: &[u8], on: bool, e: Point) -> Walked
             }
             Walked {
                 event: Event::enter(Name::LineEnding, e),
-                next: unnamed(Phase::Broken, Part::Body, q),
+                next: placed(Phase::Broken, Part::Body, 0, q),
             }
         }
     }
@@ -125,7 +136,7 @@ pub fn step_break(s: &[u8], e: Point) -> Walked
         Further::Last => no_more(),
         Further::More(q) => Walked {
             event: Event::enter(Name::LineEnding, e),
-            next: unnamed(Phase::Broken, Part::Delimiter, q),
+            next: placed(Phase::Broken, Part::Delimiter, 0, q),
         },
     }
 }
@@ -139,10 +150,67 @@ pub fn step_ended(s: &[u8], on: bool, part: Part, e: Point) -> Walked
         Part::Head => step_break(s, e),
         Part::Delimiter => Walked {
             event: Event::exit(Name::GfmTableHead, e),
-            next: unnamed(Phase::Ended, Part::Body, e),
+            next: placed(Phase::Ended, Part::Body, 0, e),
         },
         Part::Body => step_onward(s, on, e),
     }
+}
+
+// The name of the piece that begins with a byte of a kind.
+pub fn piece_name(part: Part, k: u8) -> u8
+    ensures { λ r. ⌜ r ≡ pieceName part k ⌝ }
+{
+    match part {
+        Part::Head => text_name(k),
+        Part::Delimiter => mark_name(k),
+        Part::Body => text_name(k),
+    }
+}
+
+// In a head line or a body row.
+pub fn text_name(k: u8) -> u8
+    ensures { λ r. ⌜ r ≡ textName k ⌝ }
+{
+    if k == 1 {
+        return Name::SpaceOrTab;
+    }
+    if k == 3 {
+        return Name::GfmTableCellDivider;
+    }
+    Name::Data
+}
+
+// In a delimiter row.
+pub fn mark_name(k: u8) -> u8
+    ensures { λ r. ⌜ r ≡ markName k ⌝ }
+{
+    if k == 1 {
+        return Name::SpaceOrTab;
+    }
+    if k == 3 {
+        return Name::GfmTableCellDivider;
+    }
+    if k == 6 {
+        return Name::GfmTableDelimiterMarker;
+    }
+    Name::GfmTableDelimiterFiller
+}
+
+// The end of a piece.
+pub fn piece_end(s: &[u8], n: u8, p: Point) -> Point
+    requires { ⌜ Inside (now s) p × (p .index < length (now s)) ⌝ }
+    ensures { λ r. ⌜ r ≡ pieceEnd (now (s .entry)) n p ⌝ }
+{
+    if n == Name::SpaceOrTab {
+        return space_end(s, p);
+    }
+    if n == Name::Data {
+        return data_end(s, p);
+    }
+    if n == Name::GfmTableDelimiterFiller {
+        return filler_end(s, p);
+    }
+    over(s, p)
 }
 
 // Between two pieces: the next is entered, or the row is left.
@@ -150,20 +218,18 @@ pub fn step_between(s: &[u8], part: Part, p: Point) -> Walked
     requires { ⌜ Inside (now s) p ⌝ }
     ensures { λ r. ⌜ r ≡ walkedOf (inside (Table.betweenOf part p (Table.pieceAt (now (s .entry)) part p))) ⌝ }
 {
-    match piece_at(s, part, p) {
-        Pieced::To(n, q) => Walked {
-            event: Event::enter(n, p),
-            next: Place {
-                phase: Phase::Entered,
-                part,
-                name: n,
-                at: q,
-            },
-        },
-        Pieced::Nothing => Walked {
+    let k = ahead(s, p);
+    if k == 2 {
+        return Walked {
             event: Event::exit(row_name(part), p),
-            next: unnamed(Phase::Ended, part, p),
-        },
+            next: placed(Phase::Ended, part, 0, p),
+        };
+    }
+    let n = piece_name(part, k);
+    let q = piece_end(s, n, p);
+    Walked {
+        event: Event::enter(n, p),
+        next: placed(Phase::Entered, part, n, q),
     }
 }
 
@@ -174,26 +240,31 @@ pub fn step(s: &[u8], on: bool, w: Place) -> Walked
 {
     let phase = w.phase;
     let part = w.part;
-    let p = w.at;
+    let p = Point {
+        line: w.line,
+        column: w.column,
+        index: w.index,
+        vs: w.vs,
+    };
     match phase {
         Phase::Seek => step_seek(s, on, p),
         Phase::Begin => Walked {
             event: Event::enter(Name::GfmTableHead, p),
-            next: unnamed(Phase::Enter, Part::Head, p),
+            next: placed(Phase::Enter, Part::Head, 0, p),
         },
         Phase::Enter => Walked {
             event: Event::enter(row_name(part), p),
-            next: unnamed(Phase::Between, part, p),
+            next: placed(Phase::Between, part, 0, p),
         },
         Phase::Between => step_between(s, part, p),
         Phase::Entered => Walked {
             event: Event::exit(w.name, p),
-            next: unnamed(Phase::Between, part, p),
+            next: placed(Phase::Between, part, 0, p),
         },
         Phase::Ended => step_ended(s, on, part, p),
         Phase::Broken => Walked {
             event: Event::exit(Name::LineEnding, p),
-            next: unnamed(Phase::Enter, part, p),
+            next: placed(Phase::Enter, part, 0, p),
         },
         Phase::Done => no_more(),
     }

@@ -23,7 +23,7 @@ unfoldable pub use contract.Running.{tablesOf}
 pub use contract.Running.{givenOf, tables}
 pub use types.Kit.{Given, Item, Sq, Goal, cut, runs, anyQ, atRet, ‵, raw, _⊛_, ⋆, _$_, _∵_, !, qed, by, move, keep, drop, use0, use1, use2, use3, split, join, pick, learn, rewrite, fsplit, fsplit3, fjoin, fjoin3, feqL, feqI, suffices, frame, await, done}
 pub use types.Part.{agg, rep, whole, sub, look-in, store-in}
-pub use types.Run.{look, look-raw, store, store-raw, init, forget, stop, hop, fld, from, load, lit, unit-lit, true-lit, false-lit, addr, of-opd, bin, and-then, no-more, assigns, assigns-last, land, land-last, first, skips, jumps, blocks, branches, returns, returns-within, enter, alloc1, alloc0, params1, pass1, pass0, free1, free0, exec, Below, again, loops}
+pub use types.Run.{look, look-raw, store, store-raw, init, forget, stop, hop, fld, from, load, lit, unit-lit, true-lit, false-lit, addr, of-opd, bin, un, and-then, no-more, assigns, assigns-last, land, land-last, first, skips, jumps, blocks, branches, returns, returns-within, enter, alloc1, alloc0, params1, pass1, pass0, free1, free0, exec, Below, again, loops}
 pub use sound.WpLaws.{FmC, fmOf, WpFn-mono}
 pub use denote.RattleType.{RattleType, owns}
 pub use denote.Laws.{Is, shows}
@@ -48,6 +48,6 @@ pub use Rattle.tokenizer.proofs.Lits.{big-lit}
 pub use Rattle.tokenizer.proofs.Slices.{sl, Mut, Shr, copies, looks-elem, shuts-elem, opens-elem, closes-elem}
 pub use Rattle.tokenizer.proofs.Relend.{lends-row, row-back, lends, home, shares, shared-home}
 pub use Rattle.tokenizer.proofs.Arrays.{array-data, repeat-is, parts-array, whole-array, reads-row, back-row}
-pub use Rattle.tokenizer.proofs.Refs.{rf, looks-ref, shuts-ref, opens-ref, closes-ref}
+pub use Rattle.tokenizer.proofs.Refs.{rf, looks-ref, shuts-ref, opens-ref, closes-ref, lends-local, local-home}
 pub use Rattle.tokenizer.proofs.Calls.{answers, calls-plain, calls-plain-last}
 pub use Rattle.tokenizer.proofs.Lent.{lends-array, array-home, shares-array, array-shared-home, calls-with, calls-unit, at-unit}

@@ -5,11 +5,12 @@ use mir.Syntax.{Ty, w8, w16, w32, w64}
 use denote.RattleType.{RattleType}
 use denote.Laws.{Is}
 use denote.Struct.Laws as LL
-use denote.Builtin.{u8, u32}
+use denote.Builtin.{u8, u32, bool}
 use Rattle.tokenizer.proofs.Data.{Data, data-of, enum-data-of, uint-data, bool-data, vals}
 use Rattle.tokenizer.specs.declared.event.Event.{Event}
 use Rattle.tokenizer.specs.declared.event.Point.{Point}
 use Rattle.tokenizer.specs.declared.feed.Feed.{Feed}
+use Rattle.tokenizer.specs.declared.partial_space_or_tab.Attempt.{Attempt}
 use Rattle.tokenizer.proofs.event.Event as Event
 use Rattle.tokenizer.proofs.event.Event.Laws as Event′
 use Rattle.tokenizer.proofs.event.Point as Point
@@ -20,6 +21,8 @@ use Rattle.tokenizer.proofs.feed.Feed as Feed
 use Rattle.tokenizer.proofs.feed.Feed.Laws as Feed′
 use Rattle.tokenizer.proofs.lines.Further as Further
 use Rattle.tokenizer.proofs.lines.Further.Laws as Further′
+use Rattle.tokenizer.proofs.partial_space_or_tab.Attempt as Attempt
+use Rattle.tokenizer.proofs.partial_space_or_tab.Attempt.Laws as Attempt′
 
 abbrev pub Ev : RattleType
 Ev = Event.the-row
@@ -65,6 +68,15 @@ fu-ty = Further′.mir
 
 abbrev pub fu : Data Fu
 fu = enum-data-of Further.the-type Further′.the-laws Further′.the-copy Further′.the-plain tt
+
+abbrev pub Am : RattleType
+Am = Attempt.the-row
+
+abbrev pub am-ty : Ty
+am-ty = Attempt′.mir
+
+abbrev pub am : Data Am
+am = data-of Attempt.the-type Attempt′.the-laws Attempt′.the-copy Attempt′.the-plain
 
 -- the fields of a value of `Event`
 pub ev-kind : (z : Event) → Is Ev z (vals ev z) → Is u8 (z .kind) (vals (uint-data w8) (z .kind))
@@ -119,3 +131,10 @@ fe-current z is = LL.owed Feed.the-type Feed′.the-laws z (vals fe z) is .1 .0
 -- and a value whose fields fit
 pub fe-is : (z : Feed) → Is Po (z .point) (vals po (z .point)) → Is Bt (z .current) (vals bt (z .current)) → Is Fe z (vals fe z)
 fe-is z p0 p1 = LL.owes Feed.the-type Feed′.the-laws z (p0, (p1, tt))
+
+-- the fields of a value of `Attempt`
+pub am-right : (z : Attempt) → Is Am z (vals am z) → Is bool (z .right) (vals bool-data (z .right))
+am-right z is = LL.owed Attempt.the-type Attempt′.the-laws z (vals am z) is .0
+
+pub am-feed : (z : Attempt) → Is Am z (vals am z) → Is Fe (z .feed) (vals fe (z .feed))
+am-feed z is = LL.owed Attempt.the-type Attempt′.the-laws z (vals am z) is .1 .0

@@ -8,17 +8,17 @@ use mathlib.Core.List.{List, [], _∷_}
 use native.Mathlib.Nat.{add-zero, add-suc, suc-add}
 use native.Mathlib.Numerals.{add-one}
 use native.Mathlib.Omega.{arith}
-use borrow.Author.Tests.{eq-eqb, ne-eqb, eqb-true, eqb-false}
-use lib.Dec.{eqb}
+use borrow.Author.Tests.{eq-eqb, ne-eqb, eqb-true, eqb-false, leb-true, leb-false}
+use lib.Dec.{eqb, leb}
 use lib.ListN.{length, drop}
 use lib.Seq.{drop-drop}
 use Rattle.tokenizer.specs.declared.event.Point.{Point}
 use Rattle.tokenizer.specs.Bytes.{kindOf, isEnd}
 use Rattle.tokenizer.specs.Points.{columnAfter, columnPast, past}
 use Rattle.tokenizer.specs.Lines.{lineBody, indent}
-use Rattle.tokenizer.specs.Feed.{unitOf, tabUnit, onward}
-use Rattle.tokenizer.specs.Spaces.{spaceAt, nextUnit, spacesPast}
-use Rattle.tokenizer.specs.Moves.{aheadOf, restOf}
+use Rattle.tokenizer.specs.Feed.{unitOf, tabUnit, onward, Fed}
+use Rattle.tokenizer.specs.Spaces.{spaceAt, nextUnit, spacesPast, spaceEnds}
+use Rattle.tokenizer.specs.Moves.{aheadOf, restOf, Inside}
 use Rattle.tokenizer.proofs.Bytes.{no-end}
 use Rattle.tokenizer.proofs.Runs.{space-on}
 use Rattle.tokenizer.proofs.Ahead.{past-none, past-append}
@@ -60,27 +60,28 @@ past-more c (b ∷ u) = let h = past-more (columnAfter c b) u in omega (arith, a
 
 -- ## Runs
 
--- a run of at most n units at a point, where the bytes of whitespace lead from column e, the bytes u on, to the point q
+-- a run of at most n units at a point, where the bytes of whitespace lead to the column e and the point q, and none stands there
 pub record Runs (s : List ℕ) (n : ℕ) (p : Point) (e : ℕ) (q : Point) : Type 0 where
   pub whole : e ≤ p .column + n → spacesPast s n p ≡ q
   pub part : p .column + n < e → spaceAt s (spacesPast s n p) ≡ true
+  pub bare : spaceAt s q ≡ false
 
 -- no whitespace
 none : (s : List ℕ) (n : ℕ) (p : Point) → spaceAt s p ≡ false → Runs s n p (p .column) p
 unfolding spacesPast
-none s zero p e = record { whole = λ h. refl; part = λ h. absurd (omega arith) }
-none s (suc n) p e = record { whole = λ h. rw e; part = λ h. absurd (omega arith) }
+none s zero p e = record { whole = λ h. refl; part = λ h. absurd (omega arith); bare = e }
+none s (suc n) p e = record { whole = λ h. rw e; part = λ h. absurd (omega arith); bare = e }
 
 -- a unit of whitespace before a run
 one : (s : List ℕ) (n : ℕ) (p p′ : Point) (e : ℕ) (q : Point) → spaceAt s p ≡ true → nextUnit s p ≡ p′ → p′ .column ≡ p .column + 1 → p .column < e
     → Runs s n p′ e q → Runs s (suc n) p e q
 unfolding spacesPast
-one s n p p′ e q t m c l r = record { whole = λ h. rw (t, m) (r .whole (omega arith)); part = λ h. rw (t, m) (r .part (omega arith)) }
+one s n p p′ e q t m c l r = record { whole = λ h. rw (t, m) (r .whole (omega arith)); part = λ h. rw (t, m) (r .part (omega arith)); bare = r .bare }
 
 -- no unit is passed
-still : (s : List ℕ) (p : Point) (e : ℕ) (q : Point) → spaceAt s p ≡ true → p .column < e → Runs s 0 p e q
+still : (s : List ℕ) (p : Point) (e : ℕ) (q : Point) → spaceAt s p ≡ true → p .column < e → spaceAt s q ≡ false → Runs s 0 p e q
 unfolding spacesPast
-still s p e q t l = record { whole = λ h. absurd (omega arith); part = λ h. t }
+still s p e q t l b = record { whole = λ h. absurd (omega arith); part = λ h. t; bare = b }
 
 -- ## A byte of whitespace before a run
 
@@ -98,7 +99,7 @@ stopOf c = (c + 3) / 4 * 4 + 1
 -- a tab: its units lead to the next stop, from wherever the run stands in it
 tab : (s : List ℕ) (n : ℕ) (p : Point) (v : List ℕ) (e : ℕ) (q : Point) → drop (p .index) s ≡ 9 ∷ v
     → ((m : ℕ) → Runs s m (behind p (stopOf (p .column))) e q) → stopOf (p .column) ≤ e → Runs s n p e q
-tab s zero p v e q d k l = still s p e q (space-front s p (9 ∷ v) d ∙ tab-kind) (omega arith)
+tab s zero p v e q d k l = still s p e q (space-front s p (9 ∷ v) d ∙ tab-kind) (omega arith) (k 0 .bare)
 tab s (suc n) p v e q d k l = go (eqb (p .column % 4) 0) refl (λ p′. tab s n p′ v e q)
   where
     t : spaceAt s p ≡ true
@@ -128,7 +129,7 @@ column-tab c b z = rw z
 -- a space
 blank : (s : List ℕ) (n : ℕ) (p : Point) (b : ℕ) (v : List ℕ) (e : ℕ) (q : Point) → drop (p .index) s ≡ b ∷ v → eqb (kindOf b) 1 ≡ true → isEnd b ≡ false → eqb b 9 ≡ false
     → ((m : ℕ) → Runs s m (past p (b ∷ [])) e q) → p .column < e → Runs s n p e q
-blank s zero p b v e q d f i g k l = still s p e q (space-front s p (b ∷ v) d ∙ f) l
+blank s zero p b v e q d f i g k l = still s p e q (space-front s p (b ∷ v) d ∙ f) l (k 0 .bare)
 blank s (suc n) p b v e q d f i g k l =
     one s n p (past p (b ∷ [])) e q (space-front s p (b ∷ v) d ∙ f) (rw (d, i, g)) (column-one (p .column) b g) l (k n)
 
@@ -188,3 +189,18 @@ run-whole s n p f = widths (drop (p .index) s) s n p refl f .whole
 
 pub run-part : (s : List ℕ) (n : ℕ) (p : Point) → p .vs ≡ 0 → p .column + n < columnPast (p .column) (indent kindOf (restOf s p)) → spaceAt s (spacesPast s n p) ≡ true
 run-part s n p f = widths (drop (p .index) s) s n p refl f .part
+
+-- so whether whitespace ends within n units is told by the column that its bytes lead to
+pub ends-within : (s : List ℕ) (n : ℕ) (p : Point) → p .vs ≡ 0 → spaceEnds s n p ≡ leb (columnPast (p .column) (indent kindOf (restOf s p))) (p .column + n)
+ends-within s n p f = go (leb e (p .column + n)) refl
+  where
+    e : ℕ
+    e = columnPast (p .column) (indent kindOf (restOf s p))
+
+    go : (t : Bool) → leb e (p .column + n) ≡ t → spaceEnds s n p ≡ t
+    go true h = ap not (ap (spaceAt s) (run-whole s n p f (leb-true e (p .column + n) h)) ∙ widths (drop (p .index) s) s n p refl f .bare)
+    go false h = ap not (run-part s n p f (leb-false e (p .column + n) h))
+
+-- a point between two bytes is one of the feed
+pub inside-fed : (s : List ℕ) (p : Point) → Inside s p → Fed s p
+inside-fed s p h = record { short = h .short; within = h .within; narrow = omega (arith, h .narrow); lined = h .lined; inner = omega (arith, h .flat) }

@@ -79,11 +79,13 @@ lineNumber s i = 1 + endsWithin i s
 
 -- ## Whitespace, over a table of kinds
 
+-- whether there are no bytes
 abbrev pub isEmpty : List ℕ → Bool
 isEmpty [] = true
 isEmpty (b ∷ u) = false
 
 module _ (kind : ℕ → ℕ) where
+  -- whether a byte is of the kind of spaces and tabs
   abbrev pub isSpace : ℕ → Bool
   isSpace b = eqb (kind b) 1
 

@@ -10,10 +10,10 @@ use Rattle.tokenizer.specs.declared.feed.Byte.{Byte}
 use Rattle.tokenizer.specs.declared.feed.Byte.the-variants.{At, End}
 use Rattle.tokenizer.specs.declared.feed.Feed.{Feed}
 use Rattle.tokenizer.specs.declared.partial_space_or_tab.Attempt.{Attempt}
-use Rattle.tokenizer.specs.declared.partial_space_or_tab.Attempt.the-variants.{Ok, Nok}
 use Rattle.tokenizer.specs.Bytes.{kindOf}
 use Rattle.tokenizer.specs.Feed.{currentOf, onward, feedAt, Fed}
 
+-- whether a byte that is read is a space or a tab
 abbrev pub isSpaceByte : Byte → Bool
 isSpaceByte (At b) = eqb (kindOf b) 1
 isSpaceByte End = false
@@ -38,8 +38,16 @@ spaceUnits s (suc n) p = cond (spaceAt s p) (1 + spaceUnits s n (nextUnit s p)) 
 
 -- whitespace of at least min and at most max units, or the feed as it was
 abbrev pub attemptOf : List ℕ → ℕ → ℕ → Point → Attempt
-attemptOf s min max p = cond (leb min (spaceUnits s max p)) (Ok (feedAt s (spacesPast s max p))) (Nok (feedAt s p))
+attemptOf s min max p =
+    cond (leb min (spaceUnits s max p))
+    (record { right = true; feed = feedAt s (spacesPast s max p) })
+    (record { right = false; feed = feedAt s p })
 
+-- whether no whitespace is read behind at most n units of it
+abbrev pub spaceEnds : List ℕ → ℕ → Point → Bool
+spaceEnds s n p = not (spaceAt s (spacesPast s n p))
+
+-- whether one more unit of whitespace is to be passed, where at most `left` may be
 abbrev pub spaceAhead : Feed → ℕ → Bool
 spaceAhead f left = not (eqb left 0) && isSpaceByte (f .current)
 

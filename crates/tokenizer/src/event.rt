@@ -73,7 +73,7 @@ impl Point {
     pub const TAB_STOP: u32 = 4;
 
     // The most units that a head may be indented by, where indented code is on.
-    pub const INDENT_CAP: u32 = 3;
+    pub const INDENT_CAP: usize = 3;
 
     // The first point of a sheet.
     pub fn start() -> Self

@@ -1,4 +1,4 @@
-// The feed: a point and the byte that is read there, moved unit by unit. An attempt is a kept copy of it.
+// The feed: a point and the byte that is read there, moved unit by unit, by value or lent and in place. An attempt is a kept copy of it.
 use crate::event::Event;
 use crate::event::Point;
 use crate::lines::line_end;
@@ -131,6 +131,14 @@ impl Feed {
     {
         let p = self.point;
         Feed::at(s, p.onward(s))
+    }
+
+    // One unit is passed, in place.
+    pub fn advance(&mut self, s: &[u8])
+        requires { ⌜ Fed (now s) (now self .point) ⌝ }
+        ensures { λ _. ⌜ now (self .exit) ≡ feedAt (now (s .entry)) (onward (now (self .entry) .point) (drop (now (self .entry) .point .index) (now (s .entry)))) ⌝ }
+    {
+        *self = self.consume(s);
     }
 
     // A name is entered here.

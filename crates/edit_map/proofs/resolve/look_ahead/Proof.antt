@@ -47,11 +47,11 @@ ResolveLookLookNext′ 𝓤 H A mem run′ = tripleOf 𝓤 H A resolve-look-look
 
 module _ {M : Type 1} (𝓤 : URA M) (H : Heap 𝓤) (A : Atoms 𝓤) (W : Given 𝓤 H A) (mem : Memory → SProp 𝓤) (run′ : Routine → Fun 𝓤) where
   -- `resolve_look::look_start`: what its triple binds outside, and that the slices lent and their tokens give what it asks
-  abbrev to-resolve-look-look-start : ResolveLookLookStart′ 𝓤 H A mem run′ .Ghost
-  to-resolve-look-look-start = ((tt, tt, tt, tt, tt), tt)
+  abbrev to-resolve-look-look-start : (a₁ : Ev .Denot) → ResolveLookLookStart′ 𝓤 H A mem run′ .Ghost
+  to-resolve-look-look-start a₁ = ((tt, tt, tt, (a₁, tt), (ev .val a₁ ∷ [], tt)), tt)
 
-  asks-resolve-look-look-start : ent 𝓤 (emp 𝓤) (ResolveLookLookStart′ 𝓤 H A mem run′ .pre to-resolve-look-look-start)
-  asks-resolve-look-look-start = qed W [] ∵ nothing ! $ nothing ! $ nothing ! $ join ! $ frame ! $ done !
+  asks-resolve-look-look-start : (a₁ : Ev .Denot) (a₁-ok : Is Ev a₁ (vals ev a₁)) → ent 𝓤 (emp 𝓤) (ResolveLookLookStart′ 𝓤 H A mem run′ .pre (to-resolve-look-look-start a₁))
+  asks-resolve-look-look-start a₁ a₁-ok = qed W [] ∵ nothing ! $ nothing ! $ owned ! Ev (Is Ev) (ev .makes M 𝓤 H A W) a₁ _ a₁-ok $ fjoin ! $ nothing ! $ join ! $ frame ! $ done !
 
   -- `resolve_look::look_first`: what its triple binds outside, and that the slices lent and their tokens give what it asks
   abbrev to-resolve-look-look-first : (a₁ : Md .Denot) (a₂ : Ev .Denot) (a₃ : usize .Denot) (a₄ : usize .Denot) → ResolveLookLookFirst′ 𝓤 H A mem run′ .Ghost
@@ -115,7 +115,7 @@ module _ {M : Type 1} (𝓤 : URA M) (H : Heap 𝓤) (A : Atoms 𝓤) (W : Given
       abbrev Turned : Turn → Out → SProp 𝓤
       Turned t = afterTurn 𝓤 H (Below 𝓤 H A Fewer At t) (afterBlock 𝓤 H (afterSeq 𝓤 H (Wp 𝓤 H C Λ En code-mir.t-5 (atReturn 𝓤 H En Post)) (atReturn 𝓤 H En Post)))
 
-      turns : (ok1 : Is Lk lookStart (vals lk lookStart)) (ok2 : Is usize (onTo (not (asks (c .mode) e)) (plusOf (c .at) 2) (length xs)) (vals (uint-data w64) (onTo (not (asks (c .mode) e)) (plusOf (c .at) 2) (length xs)))) (t : Turn) → Sq W (At t) (runs C Λ En code-mir.turn-1 (anyQ (Turned t)))
+      turns : (ok1 : Is Lk (lookStart e) (vals lk (lookStart e))) (ok2 : Is usize (onTo (not (asks (c .mode) e)) (plusOf (c .at) 2) (length xs)) (vals (uint-data w64) (onTo (not (asks (c .mode) e)) (plusOf (c .at) 2) (length xs)))) (t : Turn) → Sq W (At t) (runs C Λ En code-mir.turn-1 (anyQ (Turned t)))
       unfolding afterTurn
       turns ok1 ok2 t =
           assigns ! (bin ! (load ! (from ! (stop !)) (look ! 12 refl)) (load ! (from ! (stop !)) (look ! 16 refl)) tt) (from ! (stop !)) (init ! 8 refl (tt, tt)) $  -- _8 := lt(_6, _4)
@@ -165,17 +165,17 @@ module _ {M : Type 1} (𝓤 : URA M) (H : Heap 𝓤) (A : Atoms 𝓤) (W : Given
       body : Sq W (‵ (Shr Ev κ b o (length xs) γ xs) ∷ ‵ (flft κ q) ∷ ‵ (froom ev-ty l₁₁ 0) ∷ ‵ (fdies ev-ty l₁₁) ∷ ‵ (froom tyPtr l₁₀ 0) ∷ ‵ (fdies tyPtr l₁₀) ∷ ‵ (froom (tyInt w64) l₉ 0) ∷ ‵ (fdies (tyInt w64) l₉) ∷ ‵ (froom tyBool l₈ 0) ∷ ‵ (fdies tyBool l₈) ∷ ‵ (froom (tyInt w64) l₇ 0) ∷ ‵ (fdies (tyInt w64) l₇) ∷ ‵ (froom (tyInt w64) l₆ 0) ∷ ‵ (fdies (tyInt w64) l₆) ∷ ‵ (froom lk-ty l₅ 0) ∷ ‵ (fdies lk-ty l₅) ∷ ‵ (froom (tyInt w64) l₄ 0) ∷ ‵ (fdies (tyInt w64) l₄) ∷ ‵ (fat fullShare ev-ty l₃ 0 (ev .val e)) ∷ ‵ (fdies ev-ty l₃) ∷ ‵ (fat fullShare rc-ty l₂ 0 (rc .val c)) ∷ ‵ (fdies rc-ty l₂) ∷ ‵ (fat fullShare (sliceTy (tyRef (named 0) imm (pointee (Ev .written)))) l₁ 0 (sliceVal (b, o) (length xs))) ∷ ‵ (fdies (sliceTy (tyRef (named 0) imm (pointee (Ev .written)))) l₁) ∷ ‵ (froom lk-ty l₀ 0) ∷ ‵ (fdies lk-ty l₀) ∷ []) (runs C Λ En code-mir.t-1 (atRet En Post))
       body =
           assigns ! (of-opd ! (load ! (from ! (fld ! refl (stop !))) (look-in ! 22 (sub ! 1 refl (whole !))))) (from ! (stop !)) (init ! 16 refl (tt, record { fits = room .0 })) $  -- _4 := _1.1
-          -- _5 := resolve_look::look_start()
-          use0 W (raw (ResolveLookLookStart′ 𝓤 H A mem run′ .pre to-resolve-look-look-start)) asks-resolve-look-look-start $
-          calls-plain ! (fmOf 𝓤 H (W .laws) 𝓣) resolve-look-look-start.ended (resolve-look-look-start.clauses 𝓤 H A mem run′) known-resolve-look-look-start to-resolve-look-look-start lk lookStart (λ r ws. id⊢ 𝓤 _) (no-more !) (λ ok1.
+          -- _5 := resolve_look::look_start(_3)
+          use0 W (raw (ResolveLookLookStart′ 𝓤 H A mem run′ .pre (to-resolve-look-look-start e))) (asks-resolve-look-look-start e e-ok) $
+          calls-plain ! (fmOf 𝓤 H (W .laws) 𝓣) resolve-look-look-start.ended (resolve-look-look-start.clauses 𝓤 H A mem run′) known-resolve-look-look-start (to-resolve-look-look-start e) lk (lookStart e) (λ r ws. id⊢ 𝓤 _) (and-then ! (load ! (from ! (stop !)) (look ! 19 refl)) (no-more !)) (λ ok1.
           drop ! $
-          land ! (from ! (stop !)) (init ! 14 refl (typed lk W lookStart ok1 .0)) $
+          land ! (from ! (stop !)) (init ! 14 refl (typed lk W (lookStart e) ok1 .0)) $
           -- _6 := resolve_look::look_first(_2.0, _3, _2.1, _4)
           use0 W (raw (ResolveLookLookFirst′ 𝓤 H A mem run′ .pre (to-resolve-look-look-first (c .mode) e (c .at) (length xs)))) (asks-resolve-look-look-first (c .mode) e (c .at) (length xs) (rc-mode c c-ok) e-ok (rc-at c c-ok) (refl, room .0)) $
           calls-plain ! (fmOf 𝓤 H (W .laws) 𝓣) resolve-look-look-first.ended (resolve-look-look-first.clauses 𝓤 H A mem run′) known-resolve-look-look-first (to-resolve-look-look-first (c .mode) e (c .at) (length xs)) (uint-data w64) (onTo (not (asks (c .mode) e)) (plusOf (c .at) 2) (length xs)) (λ r ws. id⊢ 𝓤 _) (and-then ! (load ! (from ! (fld ! refl (stop !))) (look-in ! 21 (sub ! 0 refl (whole !)))) (and-then ! (load ! (from ! (stop !)) (look ! 19 refl)) (and-then ! (load ! (from ! (fld ! refl (stop !))) (look-in ! 21 (sub ! 1 refl (whole !)))) (and-then ! (load ! (from ! (stop !)) (look ! 17 refl)) (no-more !))))) (λ ok2.
           drop ! $
           land ! (from ! (stop !)) (init ! 12 refl (tt, record { fits = ok2 .1 })) $
-          first ! $ blocks ! $ loops ! 𝓣 Fewer (SC.Fewer-wf (λ (s : Lk .Denot). Is Lk s (vals lk s)) (λ s. not (s .on)) lookStep lookAll look-scans xs (in-most (room .0)) (lookOf xs c e)) At (turns ok1 ok2) (SC.starts (λ (s : Lk .Denot). Is Lk s (vals lk s)) (λ s. not (s .on)) lookStep lookAll look-scans xs (in-most (room .0)) (lookOf xs c e) (onTo (not (asks (c .mode) e)) (plusOf (c .at) 2) (length xs)) lookStart ok1 (ok2 .1) (λ l. refl) (look-starts xs c e))))
+          first ! $ blocks ! $ loops ! 𝓣 Fewer (SC.Fewer-wf (λ (s : Lk .Denot). Is Lk s (vals lk s)) (λ s. not (s .on)) lookStep lookAll look-scans xs (in-most (room .0)) (lookOf xs c e)) At (turns ok1 ok2) (SC.starts (λ (s : Lk .Denot). Is Lk s (vals lk s)) (λ s. not (s .on)) lookStep lookAll look-scans xs (in-most (room .0)) (lookOf xs c e) (onTo (not (asks (c .mode) e)) (plusOf (c .at) 2) (length xs)) (lookStart e) ok1 (ok2 .1) (λ l. refl) (look-starts xs c e))))
 
     walk : (𝓣 : Tables 𝓤 H) (known-resolve-look-look-start : Triple 𝓤 (𝓣 .C #edit-map·resolve-look·look-start) (ResolveLookLookStart′ 𝓤 H A mem run′)) (known-resolve-look-look-first : Triple 𝓤 (𝓣 .C #edit-map·resolve-look·look-first) (ResolveLookLookFirst′ 𝓤 H A mem run′)) (known-resolve-look-look-step : Triple 𝓤 (𝓣 .C #edit-map·resolve-look·look-step) (ResolveLookLookStep′ 𝓤 H A mem run′)) (known-resolve-look-look-next : Triple 𝓤 (𝓣 .C #edit-map·resolve-look·look-next) (ResolveLookLookNext′ 𝓤 H A mem run′)) → ent 𝓤 (onEntry 𝓤 H A look-ahead.signature (κ, tt) (q, tt) x vs) (WpFn 𝓤 H (𝓣 .C) (𝓣 .Λ) code.function (sliceVal (b, o) (length xs) ∷ rc .val c ∷ ev .val e ∷ []) Post)
     walk 𝓣 known-resolve-look-look-start known-resolve-look-look-first known-resolve-look-look-step known-resolve-look-look-next =

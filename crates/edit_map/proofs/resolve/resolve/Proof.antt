@@ -113,11 +113,11 @@ module _ {M : Type 1} (𝓤 : URA M) (H : Heap 𝓤) (A : Atoms 𝓤) (W : Given
   asks-resolve-step-more-at a₁ a₂ a₁-ok a₂-ok = qed W [] ∵ nothing ! $ nothing ! $ owned ! Ev (Is Ev) (ev .makes M 𝓤 H A W) a₂ _ a₂-ok $ fjoin ! $ owned ! Rc (Is Rc) (rc .makes M 𝓤 H A W) a₁ _ a₁-ok $ fjoin ! $ nothing ! $ join ! $ frame ! $ done !
 
   -- `resolve::judge`: what its triple binds outside, and that the slices lent and their tokens give what it asks
-  abbrev to-resolve-judge : (a₁ : Rd .Denot) (a₂ : usize .Denot) (a₃ : usize .Denot) (a₄ : usize .Denot) → ResolveJudge′ 𝓤 H A mem run′ .Ghost
-  to-resolve-judge a₁ a₂ a₃ a₄ = ((tt, tt, tt, (a₁, (a₂, (a₃, (a₄, tt)))), (rd .val a₁ ∷ [], ((uint-data w64) .val a₂ ∷ [], ((uint-data w64) .val a₃ ∷ [], ((uint-data w64) .val a₄ ∷ [], tt))))), tt)
+  abbrev to-resolve-judge : (a₁ : Rd .Denot) (a₂ : usize .Denot) (a₃ : usize .Denot) → ResolveJudge′ 𝓤 H A mem run′ .Ghost
+  to-resolve-judge a₁ a₂ a₃ = ((tt, tt, tt, (a₁, (a₂, (a₃, tt))), (rd .val a₁ ∷ [], ((uint-data w64) .val a₂ ∷ [], ((uint-data w64) .val a₃ ∷ [], tt)))), tt)
 
-  asks-resolve-judge : (a₁ : Rd .Denot) (a₂ : usize .Denot) (a₃ : usize .Denot) (a₄ : usize .Denot) (a₁-ok : Is Rd a₁ (vals rd a₁)) (a₂-ok : Is usize a₂ (vals (uint-data w64) a₂)) (a₃-ok : Is usize a₃ (vals (uint-data w64) a₃)) (a₄-ok : Is usize a₄ (vals (uint-data w64) a₄)) → ent 𝓤 (emp 𝓤) (ResolveJudge′ 𝓤 H A mem run′ .pre (to-resolve-judge a₁ a₂ a₃ a₄))
-  asks-resolve-judge a₁ a₂ a₃ a₄ a₁-ok a₂-ok a₃-ok a₄-ok = qed W [] ∵ nothing ! $ nothing ! $ owned ! usize (Is usize) ((uint-data w64) .makes M 𝓤 H A W) a₄ _ a₄-ok $ fjoin ! $ owned ! usize (Is usize) ((uint-data w64) .makes M 𝓤 H A W) a₃ _ a₃-ok $ fjoin ! $ owned ! usize (Is usize) ((uint-data w64) .makes M 𝓤 H A W) a₂ _ a₂-ok $ fjoin ! $ owned ! Rd (Is Rd) (rd .makes M 𝓤 H A W) a₁ _ a₁-ok $ fjoin ! $ nothing ! $ join ! $ frame ! $ done !
+  asks-resolve-judge : (a₁ : Rd .Denot) (a₂ : usize .Denot) (a₃ : usize .Denot) (a₁-ok : Is Rd a₁ (vals rd a₁)) (a₂-ok : Is usize a₂ (vals (uint-data w64) a₂)) (a₃-ok : Is usize a₃ (vals (uint-data w64) a₃)) → ent 𝓤 (emp 𝓤) (ResolveJudge′ 𝓤 H A mem run′ .pre (to-resolve-judge a₁ a₂ a₃))
+  asks-resolve-judge a₁ a₂ a₃ a₁-ok a₂-ok a₃-ok = qed W [] ∵ nothing ! $ nothing ! $ owned ! usize (Is usize) ((uint-data w64) .makes M 𝓤 H A W) a₃ _ a₃-ok $ fjoin ! $ owned ! usize (Is usize) ((uint-data w64) .makes M 𝓤 H A W) a₂ _ a₂-ok $ fjoin ! $ owned ! Rd (Is Rd) (rd .makes M 𝓤 H A W) a₁ _ a₁-ok $ fjoin ! $ nothing ! $ join ! $ frame ! $ done !
 
   -- `slots::clear_from`: what its triple binds outside, and that the slices lent and their tokens give what it asks
   abbrev to-slots-clear-from : (κ₁ : Lft) (q₁ : Share) (b₁ o₁ n₁ : ℕ) (γ₁ : GName) (ys₁ : List (Ev .Denot)) (a₂ : usize .Denot) → SlotsClearFrom′ 𝓤 H A mem run′ .Ghost
@@ -155,7 +155,7 @@ module _ {M : Type 1} (𝓤 : URA M) (H : Heap 𝓤) (A : Atoms 𝓤) (W : Given
     r3 = cursorAfter xs (length ys) r2
 
     abbrev ys3 : List (Ev .Denot)
-    ys3 = stepped xs (length ys) r2
+    ys3 = stepped xs r2 ys
 
     abbrev r4 : Ev .Denot
     r4 = eventAt xs (r3 .at)
@@ -164,12 +164,12 @@ module _ {M : Type 1} (𝓤 : URA M) (H : Heap 𝓤) (A : Atoms 𝓤) (W : Given
     r5 = moreOf r3 r4
 
     abbrev r6 : Jd .Denot
-    r6 = judgeOf r1 (r3 .given) r5 (length ys)
+    r6 = judgeOf r1 (r3 .given) r5
 
     abbrev ys7 : List (Ev .Denot)
     ys7 = clearedFrom (r6 .keep) ys3
 
-    module _ (𝓣 : Tables 𝓤 H) (known-resolve-accept : Triple 𝓤 (𝓣 .C #edit-map·resolve·accept) (ResolveAccept′ 𝓤 H A mem run′)) (known-resolve-stream-of : Triple 𝓤 (𝓣 .C #edit-map·resolve·stream-of) (ResolveStreamOf′ 𝓤 H A mem run′)) (known-resolve-fill-results : Triple 𝓤 (𝓣 .C #edit-map·resolve·fill-results) (ResolveFillResults′ 𝓤 H A mem run′)) (known-slots-at-or-blank : Triple 𝓤 (𝓣 .C #tokenizer·slots·at-or-blank) (SlotsAtOrBlank′ 𝓤 H A mem run′)) (known-resolve-step-more-at : Triple 𝓤 (𝓣 .C #edit-map·resolve-step·more-at) (ResolveStepMoreAt′ 𝓤 H A mem run′)) (known-resolve-judge : Triple 𝓤 (𝓣 .C #edit-map·resolve·judge) (ResolveJudge′ 𝓤 H A mem run′)) (known-slots-clear-from : Triple 𝓤 (𝓣 .C #tokenizer·slots·clear-from) (SlotsClearFrom′ 𝓤 H A mem run′)) (l₀ l₁ l₂ l₃ l₄ l₅ l₆ l₇ l₈ l₉ l₁₀ l₁₁ l₁₂ l₁₃ l₁₄ : ℕ) where
+    module _ (𝓣 : Tables 𝓤 H) (known-resolve-accept : Triple 𝓤 (𝓣 .C #edit-map·resolve·accept) (ResolveAccept′ 𝓤 H A mem run′)) (known-resolve-stream-of : Triple 𝓤 (𝓣 .C #edit-map·resolve·stream-of) (ResolveStreamOf′ 𝓤 H A mem run′)) (known-resolve-fill-results : Triple 𝓤 (𝓣 .C #edit-map·resolve·fill-results) (ResolveFillResults′ 𝓤 H A mem run′)) (known-slots-at-or-blank : Triple 𝓤 (𝓣 .C #tokenizer·slots·at-or-blank) (SlotsAtOrBlank′ 𝓤 H A mem run′)) (known-resolve-step-more-at : Triple 𝓤 (𝓣 .C #edit-map·resolve-step·more-at) (ResolveStepMoreAt′ 𝓤 H A mem run′)) (known-resolve-judge : Triple 𝓤 (𝓣 .C #edit-map·resolve·judge) (ResolveJudge′ 𝓤 H A mem run′)) (known-slots-clear-from : Triple 𝓤 (𝓣 .C #tokenizer·slots·clear-from) (SlotsClearFrom′ 𝓤 H A mem run′)) (l₀ l₁ l₂ l₃ l₄ l₅ l₆ l₇ l₈ l₉ l₁₀ l₁₁ l₁₂ l₁₃ : ℕ) where
       abbrev C : Calls 𝓤 H
       C = 𝓣 .C
 
@@ -177,69 +177,68 @@ module _ {M : Type 1} (𝓤 : URA M) (H : Heap 𝓤) (A : Atoms 𝓤) (W : Given
       Λ = 𝓣 .Λ
 
       abbrev En : Env 𝓤 H
-      En = (rz-ty, l₀) ∷ (sliceTy (tyRef (named 0) imm (pointee (Ev .written))), l₁) ∷ (sliceTy (tyRef (named 1) mut (pointee (Ev .written))), l₂) ∷ (tyInt w64, l₃) ∷ (rd-ty, l₄) ∷ (rc-ty, l₅) ∷ (rc-ty, l₆) ∷ (ev-ty, l₇) ∷ (tyInt w64, l₈) ∷ (jd-ty, l₉) ∷ (tyRef erased mut (pointee (Ev .written)), l₁₀) ∷ (sliceTy (tyRef erased mut (pointee (Ev .written))), l₁₁) ∷ (tyUnit, l₁₂) ∷ (tyRef erased mut (pointee (Ev .written)), l₁₃) ∷ (sliceTy (tyRef erased mut (pointee (Ev .written))), l₁₄) ∷ []
+      En = (rz-ty, l₀) ∷ (sliceTy (tyRef (named 0) imm (pointee (Ev .written))), l₁) ∷ (sliceTy (tyRef (named 1) mut (pointee (Ev .written))), l₂) ∷ (rd-ty, l₃) ∷ (rc-ty, l₄) ∷ (rc-ty, l₅) ∷ (ev-ty, l₆) ∷ (tyInt w64, l₇) ∷ (jd-ty, l₈) ∷ (tyRef erased mut (pointee (Ev .written)), l₉) ∷ (sliceTy (tyRef erased mut (pointee (Ev .written))), l₁₀) ∷ (tyUnit, l₁₁) ∷ (tyRef erased mut (pointee (Ev .written)), l₁₂) ∷ (sliceTy (tyRef erased mut (pointee (Ev .written))), l₁₃) ∷ []
 
       -- the end of the body, by itself: there are fewer names there, and the check is quicker
-      leaves : (zs′ : List (Ev .Denot)) (zs′-len : length zs′ ≡ length ys) (r : Rz .Denot) (r-ok : Is Rz r (vals rz r)) (said : (r ≡ resolveAnswer xs (length ys)) × (zs′ ≡ resolveSlots xs (length ys))) → Sq W (‵ (Shr Ev κ b o (length xs) γ xs) ∷ ‵ (flft κ q) ∷ ‵ (Mut Ev κ′ b′ o′ (length ys) γ′ zs′) ∷ ‵ (flft κ′ q′) ∷ ‵ (froom (sliceTy (tyRef erased mut (pointee (Ev .written)))) l₁₄ 0) ∷ ‵ (fdies (sliceTy (tyRef erased mut (pointee (Ev .written)))) l₁₄) ∷ ‵ (froom (tyRef erased mut (pointee (Ev .written))) l₁₃ 0) ∷ ‵ (fdies (tyRef erased mut (pointee (Ev .written))) l₁₃) ∷ ‵ (froom tyUnit l₁₂ 0) ∷ ‵ (fdies tyUnit l₁₂) ∷ ‵ (froom (sliceTy (tyRef erased mut (pointee (Ev .written)))) l₁₁ 0) ∷ ‵ (fdies (sliceTy (tyRef erased mut (pointee (Ev .written)))) l₁₁) ∷ ‵ (froom (tyRef erased mut (pointee (Ev .written))) l₁₀ 0) ∷ ‵ (fdies (tyRef erased mut (pointee (Ev .written))) l₁₀) ∷ ‵ (froom jd-ty l₉ 0) ∷ ‵ (fdies jd-ty l₉) ∷ ‵ (froom (tyInt w64) l₈ 0) ∷ ‵ (fdies (tyInt w64) l₈) ∷ ‵ (froom ev-ty l₇ 0) ∷ ‵ (fdies ev-ty l₇) ∷ ‵ (froom rc-ty l₆ 0) ∷ ‵ (fdies rc-ty l₆) ∷ ‵ (froom rc-ty l₅ 0) ∷ ‵ (fdies rc-ty l₅) ∷ ‵ (froom rd-ty l₄ 0) ∷ ‵ (fdies rd-ty l₄) ∷ ‵ (froom (tyInt w64) l₃ 0) ∷ ‵ (fdies (tyInt w64) l₃) ∷ ‵ (froom (sliceTy (tyRef (named 1) mut (pointee (Ev .written)))) l₂ 0) ∷ ‵ (fdies (sliceTy (tyRef (named 1) mut (pointee (Ev .written)))) l₂) ∷ ‵ (froom (sliceTy (tyRef (named 0) imm (pointee (Ev .written)))) l₁ 0) ∷ ‵ (fdies (sliceTy (tyRef (named 0) imm (pointee (Ev .written)))) l₁) ∷ ‵ (fat fullShare rz-ty l₀ 0 (rz .val r)) ∷ ‵ (fdies rz-ty l₀) ∷ []) (runs C Λ En code-mir.t-14 (atRet En Post))
+      leaves : (zs′ : List (Ev .Denot)) (zs′-len : length zs′ ≡ length ys) (r : Rz .Denot) (r-ok : Is Rz r (vals rz r)) (said : (r ≡ resolveAnswer xs (length ys)) × (zs′ ≡ resolveSlots xs (length ys))) → Sq W (‵ (Shr Ev κ b o (length xs) γ xs) ∷ ‵ (flft κ q) ∷ ‵ (Mut Ev κ′ b′ o′ (length ys) γ′ zs′) ∷ ‵ (flft κ′ q′) ∷ ‵ (froom (sliceTy (tyRef erased mut (pointee (Ev .written)))) l₁₃ 0) ∷ ‵ (fdies (sliceTy (tyRef erased mut (pointee (Ev .written)))) l₁₃) ∷ ‵ (froom (tyRef erased mut (pointee (Ev .written))) l₁₂ 0) ∷ ‵ (fdies (tyRef erased mut (pointee (Ev .written))) l₁₂) ∷ ‵ (froom tyUnit l₁₁ 0) ∷ ‵ (fdies tyUnit l₁₁) ∷ ‵ (froom (sliceTy (tyRef erased mut (pointee (Ev .written)))) l₁₀ 0) ∷ ‵ (fdies (sliceTy (tyRef erased mut (pointee (Ev .written)))) l₁₀) ∷ ‵ (froom (tyRef erased mut (pointee (Ev .written))) l₉ 0) ∷ ‵ (fdies (tyRef erased mut (pointee (Ev .written))) l₉) ∷ ‵ (froom jd-ty l₈ 0) ∷ ‵ (fdies jd-ty l₈) ∷ ‵ (froom (tyInt w64) l₇ 0) ∷ ‵ (fdies (tyInt w64) l₇) ∷ ‵ (froom ev-ty l₆ 0) ∷ ‵ (fdies ev-ty l₆) ∷ ‵ (froom rc-ty l₅ 0) ∷ ‵ (fdies rc-ty l₅) ∷ ‵ (froom rc-ty l₄ 0) ∷ ‵ (fdies rc-ty l₄) ∷ ‵ (froom rd-ty l₃ 0) ∷ ‵ (fdies rd-ty l₃) ∷ ‵ (froom (sliceTy (tyRef (named 1) mut (pointee (Ev .written)))) l₂ 0) ∷ ‵ (fdies (sliceTy (tyRef (named 1) mut (pointee (Ev .written)))) l₂) ∷ ‵ (froom (sliceTy (tyRef (named 0) imm (pointee (Ev .written)))) l₁ 0) ∷ ‵ (fdies (sliceTy (tyRef (named 0) imm (pointee (Ev .written)))) l₁) ∷ ‵ (fat fullShare rz-ty l₀ 0 (rz .val r)) ∷ ‵ (fdies rz-ty l₀) ∷ []) (runs C Λ En code-mir.t-13 (atRet En Post))
       leaves zs′ zs′-len r r-ok said =
-          returns ! (look ! 32 refl) $ forget ! 32 refl $ move ! (32 ∷ 33 ∷ []) $ free1 ! $ move ! (30 ∷ 31 ∷ []) $ free1 ! $ move ! (28 ∷ 29 ∷ []) $ free1 ! $ move ! (26 ∷ 27 ∷ []) $ free1 ! $ move ! (24 ∷ 25 ∷ []) $ free1 ! $ move ! (22 ∷ 23 ∷ []) $ free1 ! $ move ! (20 ∷ 21 ∷ []) $ free1 ! $ move ! (18 ∷ 19 ∷ []) $ free1 ! $ move ! (16 ∷ 17 ∷ []) $ free1 ! $ move ! (14 ∷ 15 ∷ []) $ free1 ! $ move ! (12 ∷ 13 ∷ []) $ free1 ! $ move ! (10 ∷ 11 ∷ []) $ free1 ! $ move ! (8 ∷ 9 ∷ []) $ free1 ! $ move ! (6 ∷ 7 ∷ []) $ free1 ! $ move ! (4 ∷ 5 ∷ []) $ free1 ! $ free0 ! $ by ! (exits zs′ zs′-len r r-ok said)
+          returns ! (look ! 30 refl) $ forget ! 30 refl $ move ! (30 ∷ 31 ∷ []) $ free1 ! $ move ! (28 ∷ 29 ∷ []) $ free1 ! $ move ! (26 ∷ 27 ∷ []) $ free1 ! $ move ! (24 ∷ 25 ∷ []) $ free1 ! $ move ! (22 ∷ 23 ∷ []) $ free1 ! $ move ! (20 ∷ 21 ∷ []) $ free1 ! $ move ! (18 ∷ 19 ∷ []) $ free1 ! $ move ! (16 ∷ 17 ∷ []) $ free1 ! $ move ! (14 ∷ 15 ∷ []) $ free1 ! $ move ! (12 ∷ 13 ∷ []) $ free1 ! $ move ! (10 ∷ 11 ∷ []) $ free1 ! $ move ! (8 ∷ 9 ∷ []) $ free1 ! $ move ! (6 ∷ 7 ∷ []) $ free1 ! $ move ! (4 ∷ 5 ∷ []) $ free1 ! $ free0 ! $ by ! (exits zs′ zs′-len r r-ok said)
 
       -- the body, from the entry on
-      -- _14: 4; _13: 6; _12: 8; _11: 10; _10: 12; _9: 14; _8: 16; _7: 18; _6: 20; _5: 22; _4: 24; _3: 26; _2: 28; _1: 30; _0: 32
-      body : Sq W (‵ (Shr Ev κ b o (length xs) γ xs) ∷ ‵ (flft κ q) ∷ ‵ (Mut Ev κ′ b′ o′ (length ys) γ′ ys) ∷ ‵ (flft κ′ q′) ∷ ‵ (froom (sliceTy (tyRef erased mut (pointee (Ev .written)))) l₁₄ 0) ∷ ‵ (fdies (sliceTy (tyRef erased mut (pointee (Ev .written)))) l₁₄) ∷ ‵ (froom (tyRef erased mut (pointee (Ev .written))) l₁₃ 0) ∷ ‵ (fdies (tyRef erased mut (pointee (Ev .written))) l₁₃) ∷ ‵ (froom tyUnit l₁₂ 0) ∷ ‵ (fdies tyUnit l₁₂) ∷ ‵ (froom (sliceTy (tyRef erased mut (pointee (Ev .written)))) l₁₁ 0) ∷ ‵ (fdies (sliceTy (tyRef erased mut (pointee (Ev .written)))) l₁₁) ∷ ‵ (froom (tyRef erased mut (pointee (Ev .written))) l₁₀ 0) ∷ ‵ (fdies (tyRef erased mut (pointee (Ev .written))) l₁₀) ∷ ‵ (froom jd-ty l₉ 0) ∷ ‵ (fdies jd-ty l₉) ∷ ‵ (froom (tyInt w64) l₈ 0) ∷ ‵ (fdies (tyInt w64) l₈) ∷ ‵ (froom ev-ty l₇ 0) ∷ ‵ (fdies ev-ty l₇) ∷ ‵ (froom rc-ty l₆ 0) ∷ ‵ (fdies rc-ty l₆) ∷ ‵ (froom rc-ty l₅ 0) ∷ ‵ (fdies rc-ty l₅) ∷ ‵ (froom rd-ty l₄ 0) ∷ ‵ (fdies rd-ty l₄) ∷ ‵ (froom (tyInt w64) l₃ 0) ∷ ‵ (fdies (tyInt w64) l₃) ∷ ‵ (fat fullShare (sliceTy (tyRef (named 1) mut (pointee (Ev .written)))) l₂ 0 (sliceVal (b′, o′) (length ys))) ∷ ‵ (fdies (sliceTy (tyRef (named 1) mut (pointee (Ev .written)))) l₂) ∷ ‵ (fat fullShare (sliceTy (tyRef (named 0) imm (pointee (Ev .written)))) l₁ 0 (sliceVal (b, o) (length xs))) ∷ ‵ (fdies (sliceTy (tyRef (named 0) imm (pointee (Ev .written)))) l₁) ∷ ‵ (froom rz-ty l₀ 0) ∷ ‵ (fdies rz-ty l₀) ∷ []) (runs C Λ En code-mir.t-1 (atRet En Post))
+      -- _13: 4; _12: 6; _11: 8; _10: 10; _9: 12; _8: 14; _7: 16; _6: 18; _5: 20; _4: 22; _3: 24; _2: 26; _1: 28; _0: 30
+      body : Sq W (‵ (Shr Ev κ b o (length xs) γ xs) ∷ ‵ (flft κ q) ∷ ‵ (Mut Ev κ′ b′ o′ (length ys) γ′ ys) ∷ ‵ (flft κ′ q′) ∷ ‵ (froom (sliceTy (tyRef erased mut (pointee (Ev .written)))) l₁₃ 0) ∷ ‵ (fdies (sliceTy (tyRef erased mut (pointee (Ev .written)))) l₁₃) ∷ ‵ (froom (tyRef erased mut (pointee (Ev .written))) l₁₂ 0) ∷ ‵ (fdies (tyRef erased mut (pointee (Ev .written))) l₁₂) ∷ ‵ (froom tyUnit l₁₁ 0) ∷ ‵ (fdies tyUnit l₁₁) ∷ ‵ (froom (sliceTy (tyRef erased mut (pointee (Ev .written)))) l₁₀ 0) ∷ ‵ (fdies (sliceTy (tyRef erased mut (pointee (Ev .written)))) l₁₀) ∷ ‵ (froom (tyRef erased mut (pointee (Ev .written))) l₉ 0) ∷ ‵ (fdies (tyRef erased mut (pointee (Ev .written))) l₉) ∷ ‵ (froom jd-ty l₈ 0) ∷ ‵ (fdies jd-ty l₈) ∷ ‵ (froom (tyInt w64) l₇ 0) ∷ ‵ (fdies (tyInt w64) l₇) ∷ ‵ (froom ev-ty l₆ 0) ∷ ‵ (fdies ev-ty l₆) ∷ ‵ (froom rc-ty l₅ 0) ∷ ‵ (fdies rc-ty l₅) ∷ ‵ (froom rc-ty l₄ 0) ∷ ‵ (fdies rc-ty l₄) ∷ ‵ (froom rd-ty l₃ 0) ∷ ‵ (fdies rd-ty l₃) ∷ ‵ (fat fullShare (sliceTy (tyRef (named 1) mut (pointee (Ev .written)))) l₂ 0 (sliceVal (b′, o′) (length ys))) ∷ ‵ (fdies (sliceTy (tyRef (named 1) mut (pointee (Ev .written)))) l₂) ∷ ‵ (fat fullShare (sliceTy (tyRef (named 0) imm (pointee (Ev .written)))) l₁ 0 (sliceVal (b, o) (length xs))) ∷ ‵ (fdies (sliceTy (tyRef (named 0) imm (pointee (Ev .written)))) l₁) ∷ ‵ (froom rz-ty l₀ 0) ∷ ‵ (fdies rz-ty l₀) ∷ []) (runs C Λ En code-mir.t-1 (atRet En Post))
       body =
-          assigns ! (of-opd ! (load ! (from ! (fld ! refl (stop !))) (look-in ! 28 (sub ! 1 refl (whole !))))) (from ! (stop !)) (init ! 26 refl (tt, record { fits = room′ .0 })) $  -- _3 := _2.1
-          -- _4 := resolve::accept(_1)
+          -- _3 := resolve::accept(_1)
           copies ! Ev xs b o _ $ move ! (0 ∷ 2 ∷ []) $
           cut (‵ (Shr Ev κ b o (length xs) γ xs) ∷ ‵ (flft κ q) ∷ []) (raw (ResolveAccept′ 𝓤 H A mem run′ .pre (to-resolve-accept κ q b o (length xs) γ xs)) ∷ []) _ (asks-resolve-accept κ q b o (length xs) γ xs) $
-          calls-plain ! (fmOf 𝓤 H (W .laws) 𝓣) resolve-accept.ended (resolve-accept.clauses 𝓤 H A mem run′) known-resolve-accept (to-resolve-accept κ q b o (length xs) γ xs) rd r1 (λ r ws. id⊢ 𝓤 _) (and-then ! (load ! (from ! (stop !)) (look ! 30 refl)) (no-more !)) (λ ok1.
+          calls-plain ! (fmOf 𝓤 H (W .laws) 𝓣) resolve-accept.ended (resolve-accept.clauses 𝓤 H A mem run′) known-resolve-accept (to-resolve-accept κ q b o (length xs) γ xs) rd r1 (λ r ws. id⊢ 𝓤 _) (and-then ! (load ! (from ! (stop !)) (look ! 28 refl)) (no-more !)) (λ ok1.
           use1 W (‵ (flft κ q) ⊛ ‵ ftrue) (id⊢ 𝓤 _) $ split ! $ move ! (1 ∷ []) $ drop ! $
           land ! (from ! (stop !)) (init ! 24 refl (typed rd W r1 ok1 .0)) $
-          -- _5 := resolve::stream_of(_4)
+          -- _4 := resolve::stream_of(_3)
           use0 W (raw (ResolveStreamOf′ 𝓤 H A mem run′ .pre (to-resolve-stream-of r1))) (asks-resolve-stream-of r1 ok1) $
           calls-plain ! (fmOf 𝓤 H (W .laws) 𝓣) resolve-stream-of.ended (resolve-stream-of.clauses 𝓤 H A mem run′) known-resolve-stream-of (to-resolve-stream-of r1) rc r2 (λ r ws. id⊢ 𝓤 _) (and-then ! (load ! (from ! (stop !)) (look ! 25 refl)) (no-more !)) (λ ok2.
           drop ! $
           land ! (from ! (stop !)) (init ! 22 refl (typed rc W r2 ok2 .0)) $
-          assigns ! (addr ! (from ! (fld ! refl (hop ! (look-in ! 28 (sub ! 0 refl (whole !))) (stop !))))) (from ! (stop !)) (init ! 12 refl (tt, tt)) $  -- _10 := &(*_2.0)
-          assigns ! (agg ! (and-then ! (load ! (from ! (stop !)) (look ! 12 refl)) (and-then ! (load ! (from ! (fld ! refl (stop !))) (look-in ! 28 (sub ! 1 refl (whole !)))) (no-more !)))) (from ! (stop !)) (init ! 10 refl (tt, (tt, (record { fits = room′ .0 }, tt)))) $  -- _11 := {_10, _2.1}
-          -- _6 := resolve::fill_results(_1, _5, _11)
+          assigns ! (addr ! (from ! (fld ! refl (hop ! (look-in ! 26 (sub ! 0 refl (whole !))) (stop !))))) (from ! (stop !)) (init ! 12 refl (tt, tt)) $  -- _9 := &(*_2.0)
+          assigns ! (agg ! (and-then ! (load ! (from ! (stop !)) (look ! 12 refl)) (and-then ! (load ! (from ! (fld ! refl (stop !))) (look-in ! 26 (sub ! 1 refl (whole !)))) (no-more !)))) (from ! (stop !)) (init ! 10 refl (tt, (tt, (record { fits = room′ .0 }, tt)))) $  -- _10 := {_9, _2.1}
+          -- _5 := resolve::fill_results(_1, _4, _10)
           move ! (1 ∷ []) $ copies ! Ev xs b o _ $ move ! (3 ∷ 4 ∷ []) $ lends ! tt Ev ys b′ o′ (length ys) refl room′ (λ ν3c δ3c. move ! (3 ∷ 5 ∷ 0 ∷ 1 ∷ []) $
           cut (‵ (Shr Ev κ b o (length xs) γ xs) ∷ ‵ (flft κ q) ∷ ‵ (Mut Ev (ν3c ∷ []) b′ o′ (length ys) δ3c ys) ∷ ‵ (flft (ν3c ∷ []) fullShare) ∷ []) (raw (ResolveFillResults′ 𝓤 H A mem run′ .pre (to-resolve-fill-results κ q b o (length xs) γ xs r2 (ν3c ∷ []) fullShare b′ o′ (length ys) δ3c ys)) ∷ []) _ (asks-resolve-fill-results κ q b o (length xs) γ xs r2 (ν3c ∷ []) fullShare b′ o′ (length ys) δ3c ys ok2) $
-          calls-with ! (fmOf 𝓤 H (W .laws) 𝓣) resolve-fill-results.ended (resolve-fill-results.clauses 𝓤 H A mem run′) known-resolve-fill-results (to-resolve-fill-results κ q b o (length xs) γ xs r2 (ν3c ∷ []) fullShare b′ o′ (length ys) δ3c ys) rc r3 (λ ws. ws .1 .1 .0 ≡ ys3) (λ r ws. id⊢ 𝓤 _) (and-then ! (load ! (from ! (stop !)) (look ! 29 refl)) (and-then ! (load ! (from ! (stop !)) (look ! 21 refl)) (and-then ! (load ! (from ! (stop !)) (look ! 9 refl)) (no-more !)))) (λ ok3 ws3 e3.
+          calls-with ! (fmOf 𝓤 H (W .laws) 𝓣) resolve-fill-results.ended (resolve-fill-results.clauses 𝓤 H A mem run′) known-resolve-fill-results (to-resolve-fill-results κ q b o (length xs) γ xs r2 (ν3c ∷ []) fullShare b′ o′ (length ys) δ3c ys) rc r3 (λ ws. ws .1 .1 .0 ≡ ys3) (λ r ws. id⊢ 𝓤 _) (and-then ! (load ! (from ! (stop !)) (look ! 27 refl)) (and-then ! (load ! (from ! (stop !)) (look ! 21 refl)) (and-then ! (load ! (from ! (stop !)) (look ! 9 refl)) (no-more !)))) (λ ok3 ws3 e3.
           fsplit ! $ drop ! $ fsplit ! $ drop ! $ fsplit ! $ fsplit ! $ move ! (1 ∷ []) $ feqL ! (λ len3c. move ! (1 ∷ []) $ drop ! $ move ! (1 ∷ []) $ use1 W (‵ (flft κ q) ⊛ (‵ (flft (ν3c ∷ []) fullShare) ⊛ ‵ ftrue)) (id⊢ 𝓤 _) $ split ! $ move ! (1 ∷ []) $ split ! $ move ! (1 ∷ []) $ drop ! $ move ! (0 ∷ 3 ∷ 2 ∷ []) $ home ! tt Ev ys (ws3 .1 .1 .0) ys3 b′ o′ (length ys) refl room′ len3c e3 (λ ys3-len.
           land ! (from ! (stop !)) (init ! 20 refl (typed rc W r3 ok3 .0)) $
-          -- _7 := slots::at_or_blank(_1, _6.1)
+          -- _6 := slots::at_or_blank(_1, _5.1)
           move ! (3 ∷ []) $ copies ! Ev xs b o _ $ move ! (0 ∷ 4 ∷ []) $
           cut (‵ (Shr Ev κ b o (length xs) γ xs) ∷ ‵ (flft κ q) ∷ []) (raw (SlotsAtOrBlank′ 𝓤 H A mem run′ .pre (to-slots-at-or-blank κ q b o (length xs) γ xs (r3 .at))) ∷ []) _ (asks-slots-at-or-blank κ q b o (length xs) γ xs (r3 .at) (rc-at r3 ok3)) $
-          calls-plain ! (fmOf 𝓤 H (W .laws) 𝓣) slots-at-or-blank.ended (slots-at-or-blank.clauses 𝓤 H A mem run′) known-slots-at-or-blank (to-slots-at-or-blank κ q b o (length xs) γ xs (r3 .at)) ev r4 (λ r ws. id⊢ 𝓤 _) (and-then ! (load ! (from ! (stop !)) (look ! 30 refl)) (and-then ! (load ! (from ! (fld ! refl (stop !))) (look-in ! 20 (sub ! 1 refl (whole !)))) (no-more !))) (λ ok4.
+          calls-plain ! (fmOf 𝓤 H (W .laws) 𝓣) slots-at-or-blank.ended (slots-at-or-blank.clauses 𝓤 H A mem run′) known-slots-at-or-blank (to-slots-at-or-blank κ q b o (length xs) γ xs (r3 .at)) ev r4 (λ r ws. id⊢ 𝓤 _) (and-then ! (load ! (from ! (stop !)) (look ! 28 refl)) (and-then ! (load ! (from ! (fld ! refl (stop !))) (look-in ! 20 (sub ! 1 refl (whole !)))) (no-more !))) (λ ok4.
           use1 W (‵ (flft κ q) ⊛ ‵ ftrue) (id⊢ 𝓤 _) $ split ! $ move ! (1 ∷ []) $ drop ! $
           land ! (from ! (stop !)) (init ! 18 refl (typed ev W r4 ok4 .0)) $
-          -- _8 := resolve_step::more_at(_6, _7)
+          -- _7 := resolve_step::more_at(_5, _6)
           use0 W (raw (ResolveStepMoreAt′ 𝓤 H A mem run′ .pre (to-resolve-step-more-at r3 r4))) (asks-resolve-step-more-at r3 r4 ok3 ok4) $
           calls-plain ! (fmOf 𝓤 H (W .laws) 𝓣) resolve-step-more-at.ended (resolve-step-more-at.clauses 𝓤 H A mem run′) known-resolve-step-more-at (to-resolve-step-more-at r3 r4) (uint-data w64) r5 (λ r ws. id⊢ 𝓤 _) (and-then ! (load ! (from ! (stop !)) (look ! 21 refl)) (and-then ! (load ! (from ! (stop !)) (look ! 19 refl)) (no-more !))) (λ ok5.
           drop ! $
           land ! (from ! (stop !)) (init ! 16 refl (tt, record { fits = ok5 .1 })) $
-          -- _9 := resolve::judge(_4, _6.2, _8, _3)
-          use0 W (raw (ResolveJudge′ 𝓤 H A mem run′ .pre (to-resolve-judge r1 (r3 .given) r5 (length ys)))) (asks-resolve-judge r1 (r3 .given) r5 (length ys) ok1 (rc-given r3 ok3) ok5 (refl, room′ .0)) $
-          calls-plain ! (fmOf 𝓤 H (W .laws) 𝓣) resolve-judge.ended (resolve-judge.clauses 𝓤 H A mem run′) known-resolve-judge (to-resolve-judge r1 (r3 .given) r5 (length ys)) jd r6 (λ r ws. id⊢ 𝓤 _) (and-then ! (load ! (from ! (stop !)) (look ! 25 refl)) (and-then ! (load ! (from ! (fld ! refl (stop !))) (look-in ! 21 (sub ! 2 refl (whole !)))) (and-then ! (load ! (from ! (stop !)) (look ! 17 refl)) (and-then ! (load ! (from ! (stop !)) (look ! 27 refl)) (no-more !))))) (λ ok6.
+          -- _8 := resolve::judge(_3, _5.2, _7)
+          use0 W (raw (ResolveJudge′ 𝓤 H A mem run′ .pre (to-resolve-judge r1 (r3 .given) r5))) (asks-resolve-judge r1 (r3 .given) r5 ok1 (rc-given r3 ok3) ok5) $
+          calls-plain ! (fmOf 𝓤 H (W .laws) 𝓣) resolve-judge.ended (resolve-judge.clauses 𝓤 H A mem run′) known-resolve-judge (to-resolve-judge r1 (r3 .given) r5) jd r6 (λ r ws. id⊢ 𝓤 _) (and-then ! (load ! (from ! (stop !)) (look ! 25 refl)) (and-then ! (load ! (from ! (fld ! refl (stop !))) (look-in ! 21 (sub ! 2 refl (whole !)))) (and-then ! (load ! (from ! (stop !)) (look ! 17 refl)) (no-more !)))) (λ ok6.
           drop ! $
           land ! (from ! (stop !)) (init ! 14 refl (typed jd W r6 ok6 .0)) $
-          assigns ! (addr ! (from ! (fld ! refl (hop ! (look-in ! 28 (sub ! 0 refl (whole !))) (stop !))))) (from ! (stop !)) (init ! 6 refl (tt, tt)) $  -- _13 := &(*_2.0)
-          assigns ! (agg ! (and-then ! (load ! (from ! (stop !)) (look ! 6 refl)) (and-then ! (load ! (from ! (fld ! refl (stop !))) (look-in ! 28 (sub ! 1 refl (whole !)))) (no-more !)))) (from ! (stop !)) (init ! 4 refl (tt, (tt, (record { fits = room′ .0 }, tt)))) $  -- _14 := {_13, _2.1}
-          -- _12 := slots::clear_from(_14, _9.0)
+          assigns ! (addr ! (from ! (fld ! refl (hop ! (look-in ! 26 (sub ! 0 refl (whole !))) (stop !))))) (from ! (stop !)) (init ! 6 refl (tt, tt)) $  -- _12 := &(*_2.0)
+          assigns ! (agg ! (and-then ! (load ! (from ! (stop !)) (look ! 6 refl)) (and-then ! (load ! (from ! (fld ! refl (stop !))) (look-in ! 26 (sub ! 1 refl (whole !)))) (no-more !)))) (from ! (stop !)) (init ! 4 refl (tt, (tt, (record { fits = room′ .0 }, tt)))) $  -- _13 := {_12, _2.1}
+          -- _11 := slots::clear_from(_13, _8.0)
           move ! (2 ∷ 3 ∷ []) $ lends ! tt Ev ys3 b′ o′ (length ys) ys3-len room′ (λ ν7a δ7a.
           cut (‵ (Mut Ev (ν7a ∷ []) b′ o′ (length ys) δ7a ys3) ∷ ‵ (flft (ν7a ∷ []) fullShare) ∷ []) (raw (SlotsClearFrom′ 𝓤 H A mem run′ .pre (to-slots-clear-from (ν7a ∷ []) fullShare b′ o′ (length ys) δ7a ys3 (r6 .keep))) ∷ []) _ (asks-slots-clear-from (ν7a ∷ []) fullShare b′ o′ (length ys) δ7a ys3 (r6 .keep) (jd-keep r6 ok6)) $
           calls-unit ! (fmOf 𝓤 H (W .laws) 𝓣) slots-clear-from.ended (slots-clear-from.clauses 𝓤 H A mem run′) known-slots-clear-from (to-slots-clear-from (ν7a ∷ []) fullShare b′ o′ (length ys) δ7a ys3 (r6 .keep)) at-unit (λ ws. ws .0 ≡ ys7) (λ r ws. id⊢ 𝓤 _) (and-then ! (load ! (from ! (stop !)) (look ! 4 refl)) (and-then ! (load ! (from ! (fld ! refl (stop !))) (look-in ! 14 (sub ! 0 refl (whole !)))) (no-more !))) (λ ws7 e7.
           fsplit ! $ fsplit ! $ move ! (1 ∷ []) $ feqL ! (λ len7a. move ! (1 ∷ []) $ drop ! $ move ! (1 ∷ []) $ use1 W (‵ (flft (ν7a ∷ []) fullShare) ⊛ ‵ ftrue) (id⊢ 𝓤 _) $ split ! $ move ! (1 ∷ []) $ drop ! $ move ! (0 ∷ 2 ∷ 1 ∷ []) $ home ! tt Ev ys3 (ws7 .0) ys7 b′ o′ (length ys) ys3-len room′ len7a e7 (λ ys7-len.
           land ! (from ! (stop !)) (init ! 8 refl (tt, tt)) $
-          assigns ! (of-opd ! (load ! (from ! (fld ! refl (stop !))) (look-in ! 14 (sub ! 1 refl (whole !))))) (from ! (stop !)) (init ! 32 refl (typed rz W (r6 .answer) (jd-answer r6 ok6) .0)) $  -- _0 := _9.1
-          move ! (3 ∷ 2 ∷ 0 ∷ 1 ∷ []) $ forget ! 4 refl $ forget ! 6 refl $ forget ! 8 refl $ forget ! 10 refl $ forget ! 12 refl $ forget ! 14 refl $ forget ! 16 refl $ forget ! 18 refl $ forget ! 20 refl $ forget ! 22 refl $ forget ! 24 refl $ forget ! 26 refl $ forget ! 28 refl $ forget ! 30 refl $ leaves ys7 ys7-len (r6 .answer) (jd-answer r6 ok6) (resolve-answer xs (length ys) (in-most (room .0)) (in-most (room′ .0)), resolve-slots xs (length ys) (in-most (room .0)) (in-most (room′ .0))))))))))))))))
+          assigns ! (of-opd ! (load ! (from ! (fld ! refl (stop !))) (look-in ! 14 (sub ! 1 refl (whole !))))) (from ! (stop !)) (init ! 30 refl (typed rz W (r6 .answer) (jd-answer r6 ok6) .0)) $  -- _0 := _8.1
+          move ! (3 ∷ 2 ∷ 0 ∷ 1 ∷ []) $ forget ! 4 refl $ forget ! 6 refl $ forget ! 8 refl $ forget ! 10 refl $ forget ! 12 refl $ forget ! 14 refl $ forget ! 16 refl $ forget ! 18 refl $ forget ! 20 refl $ forget ! 22 refl $ forget ! 24 refl $ forget ! 26 refl $ forget ! 28 refl $ leaves ys7 ys7-len (r6 .answer) (jd-answer r6 ok6) (resolve-answer xs ys (in-most (room .0)) (in-most (room′ .0)), resolve-slots xs ys (in-most (room .0)) (in-most (room′ .0))))))))))))))))
 
     walk : (𝓣 : Tables 𝓤 H) (known-resolve-accept : Triple 𝓤 (𝓣 .C #edit-map·resolve·accept) (ResolveAccept′ 𝓤 H A mem run′)) (known-resolve-stream-of : Triple 𝓤 (𝓣 .C #edit-map·resolve·stream-of) (ResolveStreamOf′ 𝓤 H A mem run′)) (known-resolve-fill-results : Triple 𝓤 (𝓣 .C #edit-map·resolve·fill-results) (ResolveFillResults′ 𝓤 H A mem run′)) (known-slots-at-or-blank : Triple 𝓤 (𝓣 .C #tokenizer·slots·at-or-blank) (SlotsAtOrBlank′ 𝓤 H A mem run′)) (known-resolve-step-more-at : Triple 𝓤 (𝓣 .C #edit-map·resolve-step·more-at) (ResolveStepMoreAt′ 𝓤 H A mem run′)) (known-resolve-judge : Triple 𝓤 (𝓣 .C #edit-map·resolve·judge) (ResolveJudge′ 𝓤 H A mem run′)) (known-slots-clear-from : Triple 𝓤 (𝓣 .C #tokenizer·slots·clear-from) (SlotsClearFrom′ 𝓤 H A mem run′)) → ent 𝓤 (onEntry 𝓤 H A resolve.signature (κ, (κ′, tt)) (q, (q′, tt)) x vs) (WpFn 𝓤 H (𝓣 .C) (𝓣 .Λ) code.function (sliceVal (b, o) (length xs) ∷ sliceVal (b′, o′) (length ys) ∷ []) Post)
     walk 𝓣 known-resolve-accept known-resolve-stream-of known-resolve-fill-results known-slots-at-or-blank known-resolve-step-more-at known-resolve-judge known-slots-clear-from =
         qed W ((‵ (flft κ q) ⊛ ‵ (flft κ′ q′) ⊛ ‵ ftrue) ∷ ‵ (owns (ShrSlice (named 0) κ Ev ∷ MutSlice (named 1) κ′ Ev ∷ []) x vs) ∷ []) ∵ move ! (1 ∷ []) $ fsplit ! $ move ! (1 ∷ []) $ fsplit ! $ move ! (1 ∷ []) $ move ! (3 ∷ []) $ split ! $ move ! (1 ∷ []) $ split ! $ keep ! (5 ∷ 2 ∷ 4 ∷ 0 ∷ []) $ enter ! (𝓣 .C) (𝓣 .Λ) code.function (sliceVal (b, o) (length xs) ∷ sliceVal (b′, o′) (length ys) ∷ []) _ $
-        alloc1 ! (λ l₀. alloc1 ! (λ l₁. alloc1 ! (λ l₂. alloc1 ! (λ l₃. alloc1 ! (λ l₄. alloc1 ! (λ l₅. alloc1 ! (λ l₆. alloc1 ! (λ l₇. alloc1 ! (λ l₈. alloc1 ! (λ l₉. alloc1 ! (λ l₁₀. alloc1 ! (λ l₁₁. alloc1 ! (λ l₁₂. alloc1 ! (λ l₁₃. alloc1 ! (λ l₁₄. alloc0 ! $ params1 ! $
-        pass1 ! (init ! 26 refl (tt, (tt, (record { fits = room .0 }, tt)))) $ pass1 ! (init ! 24 refl (tt, (tt, (record { fits = room′ .0 }, tt)))) $ pass0 ! $ move ! (30 ∷ 31 ∷ 32 ∷ 33 ∷ []) $ body 𝓣 known-resolve-accept known-resolve-stream-of known-resolve-fill-results known-slots-at-or-blank known-resolve-step-more-at known-resolve-judge known-slots-clear-from l₀ l₁ l₂ l₃ l₄ l₅ l₆ l₇ l₈ l₉ l₁₀ l₁₁ l₁₂ l₁₃ l₁₄)))))))))))))))
+        alloc1 ! (λ l₀. alloc1 ! (λ l₁. alloc1 ! (λ l₂. alloc1 ! (λ l₃. alloc1 ! (λ l₄. alloc1 ! (λ l₅. alloc1 ! (λ l₆. alloc1 ! (λ l₇. alloc1 ! (λ l₈. alloc1 ! (λ l₉. alloc1 ! (λ l₁₀. alloc1 ! (λ l₁₁. alloc1 ! (λ l₁₂. alloc1 ! (λ l₁₃. alloc0 ! $ params1 ! $
+        pass1 ! (init ! 24 refl (tt, (tt, (record { fits = room .0 }, tt)))) $ pass1 ! (init ! 22 refl (tt, (tt, (record { fits = room′ .0 }, tt)))) $ pass0 ! $ move ! (28 ∷ 29 ∷ 30 ∷ 31 ∷ []) $ body 𝓣 known-resolve-accept known-resolve-stream-of known-resolve-fill-results known-slots-at-or-blank known-resolve-step-more-at known-resolve-judge known-slots-clear-from l₀ l₁ l₂ l₃ l₄ l₅ l₆ l₇ l₈ l₉ l₁₀ l₁₁ l₁₂ l₁₃))))))))))))))
 
 resolve-meets : {M : Type 1} (𝓤 : URA M) (H : Heap 𝓤) (A : Atoms 𝓤) → Given 𝓤 H A → (mem : Memory → SProp 𝓤) (run′ : Routine → Fun 𝓤) (𝓣 : Tables 𝓤 H) (known-resolve-accept : Triple 𝓤 (𝓣 .C #edit-map·resolve·accept) (ResolveAccept′ 𝓤 H A mem run′)) (known-resolve-stream-of : Triple 𝓤 (𝓣 .C #edit-map·resolve·stream-of) (ResolveStreamOf′ 𝓤 H A mem run′)) (known-resolve-fill-results : Triple 𝓤 (𝓣 .C #edit-map·resolve·fill-results) (ResolveFillResults′ 𝓤 H A mem run′)) (known-slots-at-or-blank : Triple 𝓤 (𝓣 .C #tokenizer·slots·at-or-blank) (SlotsAtOrBlank′ 𝓤 H A mem run′)) (known-resolve-step-more-at : Triple 𝓤 (𝓣 .C #edit-map·resolve-step·more-at) (ResolveStepMoreAt′ 𝓤 H A mem run′)) (known-resolve-judge : Triple 𝓤 (𝓣 .C #edit-map·resolve·judge) (ResolveJudge′ 𝓤 H A mem run′)) (known-slots-clear-from : Triple 𝓤 (𝓣 .C #tokenizer·slots·clear-from) (SlotsClearFrom′ 𝓤 H A mem run′))
     → Meets 𝓤 H A resolve.signature (WpFn 𝓤 H (𝓣 .C) (𝓣 .Λ) code.function) (resolve.spec 𝓤 H A mem run′)

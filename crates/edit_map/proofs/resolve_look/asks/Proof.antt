@@ -8,6 +8,5 @@ pub asks-spec : {M : Type 1} → statement M
 asks-spec =
     tie.close
     (tie.spec
-    (λ c κs. search needs) (λ c κs. search needs) (λ c κs. search needs) (λ c κs. search needs) (λ c κs. search needs)
-    (λ c κs. search needs)
-    (λ c. rw (c .both3 .ensures, c .before .either .ensures, c .before .before .both2 .ensures, c .before .before .before .is-text-name .ensures, c .before .before .before .before .both .ensures, c .before .before .before .before .before .before .is-piece .ensures)))
+    (λ c κs. search needs) (λ c κs. search needs) (λ c κs. search needs) (λ c κs. search needs)
+    (λ c. rw (c .both2 .ensures, c .before .both .ensures, c .before .before .either .ensures, c .before .before .before .before .before .is-piece .ensures)))

@@ -12,6 +12,6 @@ look-on-spec =
     (tie.spec
     (λ c. rw (eq-eqb _ _ (c .if1 .taken)))
     (λ c κs. search needs)
-    (λ c. rw (ne-eqb _ _ (c .before .before .if1 .left), sym (c .before .is-text-name .ensures) ∙ c .if2 .taken))
+    (λ c. rw (ne-eqb _ _ (c .before .before .before .if1 .left), sym (c .before .before .is-text-name .ensures) ∙ c .before .if2 .taken))
     (λ c κs. search needs)
     (λ c. rw (c .either .ensures, ne-eqb _ _ (c .before .before .before .before .if1 .left), sym (c .before .before .before .is-text-name .ensures) ∙ c .before .before .if2 .left)))

@@ -12,4 +12,4 @@ look-step-spec =
     (tie.spec
     (λ c κs. search needs) (λ c κs. search needs)
     (λ c. rw (c .look-on .ensures, c .before .plus .ensures, c .before .before .if1 .taken))
-    (λ c. search needs))
+    (λ c. rw (c .if1 .left)))

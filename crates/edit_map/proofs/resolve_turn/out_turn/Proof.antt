@@ -9,6 +9,6 @@ pub out-turn-spec : {M : Type 1} → statement M
 out-turn-spec =
     tie.close
     (tie.spec
-    (λ c κs. search needs) (λ c κs. search needs) (λ c κs. search needs) (λ c κs. search needs)
-    (λ c. rw (c .blank .ensures, eq-eqb _ _ (c .before .if1 .taken)))
+    (λ c κs. search needs) (λ c κs. search needs) (λ c κs. search needs)
+    (λ c. rw (eq-eqb _ _ (c .if1 .taken)))
     (λ c. rw (c .given .ensures, c .before .plainly .ensures, c .before .before .enter-at .ensures, ne-eqb _ _ (c .before .before .before .if1 .left))))

@@ -1,21 +1,29 @@
 -- `calls::sheet_plan` meets its contract.
 -- Assumes nothing.
-use borrow.Author.Tests.{lt-ltb, le-ltb}
-use Rattle.sheet.specs.Calls.{planOf}
-use mathlib.Core.Path.{ap, sym, _∙_}
+use borrow.Author.Tests.{lt-ltb, le-ltb, lt-leb, le-leb}
 use borrow.Author.Needs.{needs}
+use Rattle.sheet.specs.Calls.{planOf}
 use Rattle.sheet.proofs.calls.sheet_plan.Statement.{statement}
 use Rattle.sheet.proofs.calls.sheet_plan.Tie as tie
+
+clear-requires : tie.Need-clear-requires
+clear-requires c κs = search needs
 
 no-plan-requires : tie.Need-no-plan-requires
 no-plan-requires c κs = search needs
 
+same-length : tie.Need-same-length
+same-length c = search needs
+
 returns : tie.Need-returns
 unfolding planOf
-returns c = rw (lt-ltb _ _ (c .before .if1 .taken)) (c .no-plan .ensures)
+returns c =
+    let l = c .before .before .before in
+    let h = l .before .before .if1 .taken in
+    (rw (lt-ltb _ _ h) (c .no-plan .ensures), rw (lt-leb _ _ h) (l .clear .ensures))
 
-count-requires : tie.Need-count-requires
-count-requires c κs = search needs
+count-into-requires : tie.Need-count-into-requires
+count-into-requires c κs = search needs
 
 cast-if2 : tie.Need-cast-if2
 cast-if2 c = search needs
@@ -23,30 +31,44 @@ cast-if2 c = search needs
 no-plan-requires-2 : tie.Need-no-plan-requires-2
 no-plan-requires-2 c κs = search needs
 
+same-length-2 : tie.Need-same-length-2
+same-length-2 c = search needs
+
 returns-2 : tie.Need-returns-2
 unfolding planOf
 returns-2 c =
-    let r = c .before .before .before in
-    rw (le-ltb _ _ (r .before .if1 .left), lt-ltb _ _ (rw (r .count .ensures) at (c .before .if2 .taken))) (c .no-plan2 .ensures)
+    let n = c .before .before .before .before .before in
+    let h = n .before .before .if1 .left in
+    let e = n .count-into .ensures in
+    (rw (le-ltb _ _ h, lt-ltb _ _ (rw (e .0) at (c .before .if2 .taken))) (c .no-plan2 .ensures), rw (le-leb _ _ h) (e .1))
 
 begin-requires : tie.Need-begin-requires
 begin-requires c κs = search needs
 
+same-length-3 : tie.Need-same-length-3
+same-length-3 c = search needs
+
 returns-3 : tie.Need-returns-3
 unfolding planOf
 returns-3 c =
-    let r = c .before .before .before in
-    rw (le-ltb _ _ (r .before .if1 .left), le-ltb _ _ (rw (r .count .ensures) at (c .before .if2 .left)), r .count .ensures, c .begin .ensures)
+    let n = c .before .before .before .before .before in
+    let h = n .before .before .if1 .left in
+    let e = n .count-into .ensures in
+    (rw (le-ltb _ _ h, le-ltb _ _ (rw (e .0) at (c .before .if2 .left)), e .0, c .begin .ensures), rw (le-leb _ _ h) (e .1))
 
 pub sheet-plan-spec : {M : Type 1} → statement M
 sheet-plan-spec =
     tie.close
     (tie.spec
+    clear-requires
     no-plan-requires
+    same-length
     returns
-    count-requires
+    count-into-requires
     cast-if2
     no-plan-requires-2
+    same-length-2
     returns-2
     begin-requires
+    same-length-3
     returns-3)

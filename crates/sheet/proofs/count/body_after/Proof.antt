@@ -11,31 +11,36 @@ use Rattle.tokenizer.specs.Places.{linesPast}
 use Rattle.tokenizer.specs.Bytes.{kindOf}
 use Rattle.tokenizer.specs.Moves.{restOf, lineAt, after, Inside}
 use Rattle.tokenizer.specs.Lines.{blank}
-use Rattle.tokenizer.proofs.Ends.{body-inside}
-use Rattle.gfm_table.specs.Machine.{RowRead}
 use Rattle.sheet.specs.Walk.{rows}
 use Rattle.sheet.specs.Counting.{bodyEvents}
 use Rattle.sheet.proofs.From.{is-more, is-last, after-line}
 use Rattle.sheet.proofs.Bounds.{past-tally}
-use Rattle.sheet.proofs.Bodies.{body-last, rows-last, body-blank, rows-blank, body-on, rows-on}
+use Rattle.sheet.proofs.Bodies.{body-last, rows-last, body-blank, rows-blank, body-row, rows-row}
 use Rattle.sheet.proofs.count.body_after.Statement.{statement}
 use Rattle.sheet.proofs.count.body_after.Tie as tie
 
 abbrev Inv-loop : tie.InvT-loop
-Inv-loop s q₀ n₀ q n =
+Inv-loop s q₀ e₀ n₀ q e n =
     Inside s q
+    × (e ≡ q .index + length (restOf s q))
     × (n + bodyEvents s q ≡ bodyEvents s q₀)
     × ((on : Bool) → rows kindOf on (linesPast s q) ≡ rows kindOf on (linesPast s q₀))
     × (q₀ .index ≤ q .index)
 
 abbrev μ-loop : tie.MeasureT-loop
-μ-loop s q₀ n₀ q n = length s - q .index
+μ-loop s q₀ e₀ n₀ q e n = length s - q .index
+
+cast-line-stop : tie.Need-cast-line-stop Inv-loop μ-loop
+cast-line-stop c = search needs
+
+line-stop-requires : tie.Need-line-stop-requires Inv-loop μ-loop
+line-stop-requires c κs = search needs
 
 loop-holds : tie.Need-loop-holds Inv-loop μ-loop
-loop-holds c = (c .before .pre, omega arith, (λ on. refl), omega arith)
+loop-holds c = (c .before .before .before .pre, c .line-stop .ensures, omega arith, (λ on. refl), omega arith)
 
-line-after-requires : tie.Need-line-after-requires Inv-loop μ-loop
-line-after-requires c κs = c .loop .inv .0
+line-behind-requires : tie.Need-line-behind-requires Inv-loop μ-loop
+line-behind-requires c κs = (c .loop .inv .0, c .loop .inv .1)
 
 enum-told : tie.Need-enum-told Inv-loop μ-loop
 enum-told c = search needs
@@ -44,22 +49,22 @@ returns : tie.Need-returns Inv-loop μ-loop
 returns c =
     let r = c .before .before in
     let l = r .before .loop in
-    let s = now (r .before .before .before .args .s) in
-    let e = is-last s (l .q) (sym (c .enum-told .given .1) ∙ r .line-after .ensures) in
+    let s = now (r .before .before .before .before .before .args .s) in
+    let e = is-last s (l .q) (sym (c .enum-told .given .1) ∙ r .line-behind .ensures) in
     record {
-      events = omega (arith, body-last s (l .q) e, l .inv .1);
-      onward = record { tables = λ on. sym (l .inv .2 on) ∙ rows-last s (l .q) e on; further = omega arith };
+      events = omega (arith, body-last s (l .q) e, l .inv .2);
+      onward = record { tables = λ on. sym (l .inv .3 on) ∙ rows-last s (l .q) e on; further = omega arith };
     }
 
 enum-known-t : tie.Need-enum-known-t Inv-loop μ-loop
 enum-known-t c = search needs
 
 -- the next line
-next : (c : tie.After-known-told Inv-loop μ-loop) → let r = c .before .before .before in let s = now (r .before .before .before .args .s) in
+next : (c : tie.After-known-told Inv-loop μ-loop) → let r = c .before .before .before in let s = now (r .before .before .before .before .before .args .s) in
     (c .before .t .given .0 .0 ≡ after s (r .before .loop .q)) × (lineAt s (r .before .loop .q) .end ≡ 0 → ⊥)
 next c =
     let r = c .before .before .before in
-    is-more (now (r .before .before .before .args .s)) (r .before .loop .q) _ (sym (c .before .t .given .1) ∙ r .line-after .ensures)
+    is-more (now (r .before .before .before .before .before .args .s)) (r .before .loop .q) _ (sym (c .before .t .given .1) ∙ r .line-behind .ensures)
 
 is-blank-requires : tie.Need-is-blank-requires Inv-loop μ-loop
 is-blank-requires c κs =
@@ -72,45 +77,47 @@ returns-2 c =
     let k = c .before .before in
     let r = k .before .before .before in
     let l = r .before .loop in
-    let s = now (r .before .before .before .args .s) in
+    let s = now (r .before .before .before .before .before .args .s) in
     let m = next k in
     let b = sym (rw (m .0) at (c .before .is-blank .ensures)) ∙ c .if1 .taken in
     rw (m .0)
     (record {
-      events = omega (arith, body-blank s (l .q) (m .1) b, l .inv .1);
-      onward = record { tables = λ on. sym (l .inv .2 on) ∙ rows-blank s (l .q) (m .1) b on; further = (after-line s (l .q) (m .1) (l .inv .0), omega (arith, m .1, l .inv .3)) };
+      events = omega (arith, body-blank s (l .q) (m .1) b, l .inv .2);
+      onward = record { tables = λ on. sym (l .inv .3 on) ∙ rows-blank s (l .q) (m .1) b on; further = (after-line s (l .q) (m .1) (l .inv .0), omega (arith, m .1, l .inv .4)) };
     })
 
-row-requires : tie.Need-row-requires Inv-loop μ-loop
-row-requires c κs =
-    let k = c .before .before in
+cast-pieces-from : tie.Need-cast-pieces-from Inv-loop μ-loop
+cast-pieces-from c = search needs
+
+pieces-from-requires : tie.Need-pieces-from-requires Inv-loop μ-loop
+pieces-from-requires c κs =
+    let k = c .before .before .before in
     let l = k .before .before .before .before .loop in
     let m = next k in
-    rw (m .0) (after-line _ (l .q) (m .1) (l .inv .0) .inside)
+    let i = after-line _ (l .q) (m .1) (l .inv .0) .inside in
+    rw (m .0) (i .short, i .within)
 
--- the row that is read, and that it is no blank line
-read : (c : tie.After-row Inv-loop μ-loop) → let r = c .before .before .before .before .before .before in let s = now (r .before .before .before .args .s) in
-    RowRead (restOf s (after s (r .before .loop .q))) (after s (r .before .loop .q)) (c .row .result) × (blank kindOf (restOf s (after s (r .before .loop .q))) ≡ false)
-read c =
-    let m = next (c .before .before .before) in
-    (rw (m .0) at (c .row .ensures), sym (rw (m .0) at (c .before .before .is-blank .ensures)) ∙ c .before .if1 .left)
-
--- its events are the first of those that are left
-turn : (c : tie.After-row Inv-loop μ-loop) → let r = c .before .before .before .before .before .before in let s = now (r .before .before .before .args .s) in
-    bodyEvents s (r .before .loop .q) ≡ 4 + 2 * c .row .result .count + bodyEvents s (c .row .result .at)
+-- the row that is read, and that it is no blank line: its events are the first of those that are left
+turn : (c : tie.After-pieces-from Inv-loop μ-loop) → let r = c .before .before .before .before .before .before .before in let s = now (r .before .before .before .before .before .args .s) in let q = after s (r .before .loop .q) in
+    (c .pieces-from .result .end ≡ q .index + length (restOf s q))
+    × (blank kindOf (restOf s q) ≡ false)
+    × (bodyEvents s (r .before .loop .q) ≡ 4 + 2 * c .pieces-from .result .count + bodyEvents s q)
 turn c =
-    let r = c .before .before .before .before .before .before in
-    let m = next (c .before .before .before) in
-    let h = read c in
-    omega (arith, h .0 .pieces, body-on (now (r .before .before .before .args .s)) (r .before .loop .q) (c .row .result .at) (h .0 .end) (m .1) (h .1))
+    let k = c .before .before .before .before in
+    let r = k .before .before .before in
+    let s = now (r .before .before .before .before .before .args .s) in
+    let m = next k in
+    let h = rw (m .0) at (c .pieces-from .ensures) in
+    let b = sym (rw (m .0) at (c .before .before .before .is-blank .ensures)) ∙ c .before .before .if1 .left in
+    (h .1, b, omega (arith, h .0, body-row s (r .before .loop .q) (m .1) b))
 
 -- so the sum fits
-fits : (c : tie.After-row Inv-loop μ-loop) → let l = c .before .before .before .before .before .before .before .loop in l .n + (4 + 2 * c .row .result .count) < 1000000
+fits : (c : tie.After-pieces-from Inv-loop μ-loop) → let l = c .before .before .before .before .before .before .before .before .loop in l .n + (4 + 2 * c .pieces-from .result .count) < 1000000
 fits c =
-    let r = c .before .before .before .before .before .before in
+    let r = c .before .before .before .before .before .before .before in
     let l = r .before .loop in
-    let s = now (r .before .before .before .args .s) in
-    omega (arith, turn c, l .inv .1, past-tally s false (r .before .before .before .args .p), l .inv .0 .short)
+    let s = now (r .before .before .before .before .before .args .s) in
+    omega (arith, turn c .2, l .inv .2, past-tally s false (r .before .before .before .before .before .args .p), l .inv .0 .short)
 
 mul-n : tie.Need-mul-n Inv-loop μ-loop
 mul-n c = omega (arith, fits (c .before))
@@ -123,23 +130,24 @@ add-n-2 c = omega (arith, fits (c .before))
 
 loop-less : tie.Need-loop-less Inv-loop μ-loop
 loop-less c =
-    let w = c .before .before in
-    let r = w .before .before .before .before .before .before in
-    let l = r .before .loop in
-    let m = next (w .before .before .before) in
-    let i = body-inside _ _ (after-line _ (l .q) (m .1) (l .inv .0) .inside) in
-    rw (read w .0 .end) (omega (arith, m .1, i .within))
+    let w = c .before in
+    let k = w .before .before .before .before in
+    let l = k .before .before .before .before .loop in
+    let m = next k in
+    let i = after-line _ (l .q) (m .1) (l .inv .0) .inside in
+    rw (m .0) (omega (arith, m .1, i .within))
 
 loop-again : tie.Need-loop-again Inv-loop μ-loop
 loop-again c =
-    let w = c .before .before in
-    let r = w .before .before .before .before .before .before in
+    let w = c .before in
+    let k = w .before .before .before .before in
+    let r = k .before .before .before in
     let l = r .before .loop in
-    let s = now (r .before .before .before .args .s) in
-    let m = next (w .before .before .before) in
-    let h = read w in
-    let i = body-inside s (after s (l .q)) (after-line s (l .q) (m .1) (l .inv .0) .inside) in
-    ((rw (h .0 .end) i), omega (arith, turn w, l .inv .1), (λ on. rows-on s (l .q) (w .row .result .at) (h .0 .end) (m .1) (h .1) on ∙ l .inv .2 on), rw (h .0 .end) (omega (arith, l .inv .3)))
+    let s = now (r .before .before .before .before .before .args .s) in
+    let m = next k in
+    let h = turn w in
+    rw (m .0)
+    (after-line s (l .q) (m .1) (l .inv .0) .inside, h .0, omega (arith, h .2, l .inv .2), (λ on. sym (rows-row s (l .q) (m .1) (h .1) on) ∙ l .inv .3 on), omega (arith, l .inv .4))
 
 pub body-after-spec : {M : Type 1} → statement M
 body-after-spec =
@@ -147,14 +155,17 @@ body-after-spec =
     (tie.spec
     Inv-loop
     μ-loop
+    cast-line-stop
+    line-stop-requires
     loop-holds
-    line-after-requires
+    line-behind-requires
     enum-told
     returns
     enum-known-t
     is-blank-requires
     returns-2
-    row-requires
+    cast-pieces-from
+    pieces-from-requires
     mul-n
     add-n
     add-n-2

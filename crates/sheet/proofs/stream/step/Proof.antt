@@ -9,7 +9,7 @@ enum-told : tie.Need-enum-told
 enum-told c = search needs
 
 step-seek-requires : tie.Need-step-seek-requires
-step-seek-requires c κs = rw (c .enum-told .given .1) at (c .before .before .before .before .pre)
+step-seek-requires c κs = rw (c .enum-told .given .1) at (c .before .before .before .pre)
 
 enum-told-2 : tie.Need-enum-told-2
 enum-told-2 c = search needs
@@ -17,8 +17,8 @@ enum-told-2 c = search needs
 enter-requires : tie.Need-enter-requires
 enter-requires c κs = search needs
 
-unnamed-requires : tie.Need-unnamed-requires
-unnamed-requires c κs = search needs
+placed-requires : tie.Need-placed-requires
+placed-requires c κs = search needs
 
 enum-told-3 : tie.Need-enum-told-3
 enum-told-3 c = search needs
@@ -29,14 +29,14 @@ row-name-requires c κs = search needs
 enter-requires-2 : tie.Need-enter-requires-2
 enter-requires-2 c κs = search needs
 
-unnamed-requires-2 : tie.Need-unnamed-requires-2
-unnamed-requires-2 c κs = search needs
+placed-requires-2 : tie.Need-placed-requires-2
+placed-requires-2 c κs = search needs
 
 enum-told-4 : tie.Need-enum-told-4
 enum-told-4 c = search needs
 
 step-between-requires : tie.Need-step-between-requires
-step-between-requires c κs = rw (c .enum-told4 .given .1) at (c .before .before .before .before .pre)
+step-between-requires c κs = rw (c .enum-told4 .given .1) at (c .before .before .before .pre)
 
 enum-told-5 : tie.Need-enum-told-5
 enum-told-5 c = search needs
@@ -44,14 +44,14 @@ enum-told-5 c = search needs
 exit-requires : tie.Need-exit-requires
 exit-requires c κs = search needs
 
-unnamed-requires-3 : tie.Need-unnamed-requires-3
-unnamed-requires-3 c κs = search needs
+placed-requires-3 : tie.Need-placed-requires-3
+placed-requires-3 c κs = search needs
 
 enum-told-6 : tie.Need-enum-told-6
 enum-told-6 c = search needs
 
 step-ended-requires : tie.Need-step-ended-requires
-step-ended-requires c κs = rw (c .enum-told6 .given .1) at (c .before .before .before .before .pre)
+step-ended-requires c κs = rw (c .enum-told6 .given .1) at (c .before .before .before .pre)
 
 enum-told-7 : tie.Need-enum-told-7
 enum-told-7 c = search needs
@@ -59,8 +59,8 @@ enum-told-7 c = search needs
 exit-requires-2 : tie.Need-exit-requires-2
 exit-requires-2 c κs = search needs
 
-unnamed-requires-4 : tie.Need-unnamed-requires-4
-unnamed-requires-4 c κs = search needs
+placed-requires-4 : tie.Need-placed-requires-4
+placed-requires-4 c κs = search needs
 
 enum-told-8 : tie.Need-enum-told-8
 enum-told-8 c = search needs
@@ -74,11 +74,11 @@ returns c = rw (c .before .enum-told .given .1) (c .step-seek .ensures)
 
 returns-2 : tie.Need-returns-2
 unfolding nextOf
-returns-2 c = rw (c .before .before .enum-told2 .given .1, c .before .enter .ensures, c .unnamed .ensures)
+returns-2 c = rw (c .before .before .enum-told2 .given .1, c .before .enter .ensures, c .placed .ensures)
 
 returns-3 : tie.Need-returns-3
 unfolding nextOf
-returns-3 c = rw (c .before .before .before .enum-told3 .given .1, c .before .enter2 .ensures, c .before .before .row-name .ensures, c .unnamed2 .ensures)
+returns-3 c = rw (c .before .before .before .enum-told3 .given .1, c .before .enter2 .ensures, c .before .before .row-name .ensures, c .placed2 .ensures)
 
 returns-4 : tie.Need-returns-4
 unfolding nextOf
@@ -86,7 +86,7 @@ returns-4 c = rw (c .before .enum-told4 .given .1) (c .step-between .ensures)
 
 returns-5 : tie.Need-returns-5
 unfolding nextOf
-returns-5 c = rw (c .before .before .enum-told5 .given .1, c .before .exit .ensures, c .unnamed3 .ensures)
+returns-5 c = rw (c .before .before .enum-told5 .given .1, c .before .exit .ensures, c .placed3 .ensures)
 
 returns-6 : tie.Need-returns-6
 unfolding nextOf
@@ -94,7 +94,7 @@ returns-6 c = rw (c .before .enum-told6 .given .1) (c .step-ended .ensures)
 
 returns-7 : tie.Need-returns-7
 unfolding nextOf
-returns-7 c = rw (c .before .before .enum-told7 .given .1, c .before .exit2 .ensures, c .unnamed4 .ensures)
+returns-7 c = rw (c .before .before .enum-told7 .given .1, c .before .exit2 .ensures, c .placed4 .ensures)
 
 returns-8 : tie.Need-returns-8
 unfolding nextOf
@@ -108,21 +108,21 @@ step-spec =
     step-seek-requires
     enum-told-2
     enter-requires
-    unnamed-requires
+    placed-requires
     enum-told-3
     row-name-requires
     enter-requires-2
-    unnamed-requires-2
+    placed-requires-2
     enum-told-4
     step-between-requires
     enum-told-5
     exit-requires
-    unnamed-requires-3
+    placed-requires-3
     enum-told-6
     step-ended-requires
     enum-told-7
     exit-requires-2
-    unnamed-requires-4
+    placed-requires-4
     enum-told-8
     no-more-requires
     returns

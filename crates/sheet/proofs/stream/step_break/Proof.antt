@@ -29,8 +29,8 @@ enum-known-q c = search needs
 enter-requires : tie.Need-enter-requires
 enter-requires c κs = search needs
 
-unnamed-requires : tie.Need-unnamed-requires
-unnamed-requires c κs = search needs
+placed-requires : tie.Need-placed-requires
+placed-requires c κs = search needs
 
 returns : tie.Need-returns
 returns c =
@@ -43,7 +43,7 @@ returns-2 c =
     let r = c .before .before .before .before .before in
     let b = r .before .before in
     let n = is-more (now (b .args .s)) (b .args .e) _ (sym (c .before .before .before .q .given .1) ∙ r .line-after .ensures) in
-    rw (c .before .enter .ensures, c .unnamed .ensures, n .0) (ap walkedOf (break-line (now (b .args .s)) false (b .args .e) (b .pre .0) (b .pre .1) (n .1)))
+    rw (c .before .enter .ensures, c .placed .ensures, n .0) (ap walkedOf (break-line (now (b .args .s)) false (b .args .e) (b .pre .0) (b .pre .1) (n .1)))
 
 pub step-break-spec : {M : Type 1} → statement M
 step-break-spec =
@@ -54,6 +54,6 @@ step-break-spec =
     no-more-requires
     enum-known-q
     enter-requires
-    unnamed-requires
+    placed-requires
     returns
     returns-2)

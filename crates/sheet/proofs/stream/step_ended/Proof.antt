@@ -16,8 +16,8 @@ enum-told-2 c = search needs
 exit-requires : tie.Need-exit-requires
 exit-requires c κs = search needs
 
-unnamed-requires : tie.Need-unnamed-requires
-unnamed-requires c κs = search needs
+placed-requires : tie.Need-placed-requires
+placed-requires c κs = search needs
 
 enum-told-3 : tie.Need-enum-told-3
 enum-told-3 c = search needs
@@ -29,7 +29,7 @@ returns : tie.Need-returns
 returns c = rw (c .before .enum-told .given .1) (c .step-break .ensures)
 
 returns-2 : tie.Need-returns-2
-returns-2 c = rw (c .before .before .enum-told2 .given .1, c .before .exit .ensures, c .unnamed .ensures)
+returns-2 c = rw (c .before .before .enum-told2 .given .1, c .before .exit .ensures, c .placed .ensures)
 
 returns-3 : tie.Need-returns-3
 returns-3 c = rw (c .before .enum-told3 .given .1) (c .step-onward .ensures)
@@ -42,7 +42,7 @@ step-ended-spec =
     step-break-requires
     enum-told-2
     exit-requires
-    unnamed-requires
+    placed-requires
     enum-told-3
     step-onward-requires
     returns

@@ -45,8 +45,8 @@ returns c =
 enter-requires : tie.Need-enter-requires
 enter-requires c κs = search needs
 
-unnamed-requires : tie.Need-unnamed-requires
-unnamed-requires c κs = search needs
+placed-requires : tie.Need-placed-requires
+placed-requires c κs = search needs
 
 returns-2 : tie.Need-returns-2
 returns-2 c =
@@ -57,7 +57,7 @@ returns-2 c =
 returns-3 : tie.Need-returns-3
 returns-3 c =
     let n = next (c .before .before .before .before .before) in
-    rw (ne-eqb _ 0 (n .1), sym (rw (n .0) at (c .before .before .before .is-blank .ensures)) ∙ c .before .before .if1 .left, c .before .enter .ensures, c .unnamed .ensures, n .0)
+    rw (ne-eqb _ 0 (n .1), sym (rw (n .0) at (c .before .before .before .is-blank .ensures)) ∙ c .before .before .if1 .left, c .before .enter .ensures, c .placed .ensures, n .0)
 
 pub step-onward-spec : {M : Type 1} → statement M
 step-onward-spec =
@@ -71,6 +71,6 @@ step-onward-spec =
     step-seek-requires
     returns
     enter-requires
-    unnamed-requires
+    placed-requires
     returns-2
     returns-3)

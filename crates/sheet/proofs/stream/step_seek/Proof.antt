@@ -17,8 +17,8 @@ enum-known-q c = search needs
 enter-requires : tie.Need-enter-requires
 enter-requires c κs = search needs
 
-unnamed-requires : tie.Need-unnamed-requires
-unnamed-requires c κs = search needs
+placed-requires : tie.Need-placed-requires
+placed-requires c κs = search needs
 
 enum-told : tie.Need-enum-told
 enum-told c = search needs
@@ -30,7 +30,7 @@ returns : tie.Need-returns
 returns c =
     let r = c .before .before .before .before .before in
     let f = rw (c .before .before .before .q .given .1) at (r .next-head .ensures) in
-    rw (f .tables, c .before .enter .ensures, c .unnamed .ensures)
+    rw (f .tables, c .before .enter .ensures, c .placed .ensures)
 
 returns-2 : tie.Need-returns-2
 returns-2 c =
@@ -45,7 +45,7 @@ step-seek-spec =
     next-head-requires
     enum-known-q
     enter-requires
-    unnamed-requires
+    placed-requires
     enum-told
     no-more-requires
     returns
