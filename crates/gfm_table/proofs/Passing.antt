@@ -2,7 +2,7 @@
 -- Assumes nothing.
 use Prim.Native.Nat.{ℕ, _+_, _≤_, _<_}
 use mathlib.Core.Path.{_≡_, refl, ap, sym, _∙_}
-use mathlib.Core.Bool.{true, false}
+use mathlib.Core.Bool.{false}
 use mathlib.Core.List.{List, [], _∷_, _++_}
 use mathlib.Core.Logic.{_⊎_}
 use native.Mathlib.Omega.{arith}
@@ -10,7 +10,7 @@ use lib.ListN.{length, drop, getD, length-append}
 use Rattle.tokenizer.specs.declared.event.Point.{Point}
 use Rattle.tokenizer.specs.Bytes.{kindOf}
 use Rattle.tokenizer.specs.Lines.{lineBody, indent, unindented}
-use Rattle.tokenizer.specs.Moves.{aheadOf, Inside}
+use Rattle.tokenizer.specs.Moves.{aheadOf}
 use Rattle.tokenizer.proofs.Ahead.{Front, ends, rest-past, run-stops}
 use Rattle.tokenizer.proofs.Runs.{indent-run, space-on, space-split}
 use Rattle.gfm_table.specs.Rows.{Piece, rowPieces}

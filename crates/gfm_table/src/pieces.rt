@@ -3,7 +3,7 @@ use crate::states::row_escape;
 use tokenizer::moves::kind_at;
 ghost use mathlib.Core.Path.{_≡_};
 ghost use mathlib.Core.Bool.{false};
-ghost use Prim.Native.Nat.{_≤_, _<_, _+_};
+ghost use Prim.Native.Nat.{_≤_, _+_};
 ghost use lib.ListN.{length, drop};
 ghost use Rattle.tokenizer.specs.Bytes.{kindOf};
 ghost use Rattle.tokenizer.specs.Lines.{lineBody, indent};

@@ -48,14 +48,9 @@ pub struct Verdict {
 pub fn no_plan(refusal: u8) -> Plan
     ensures { λ r. ⌜ r ≡ noPlan refusal ⌝ }
 {
-    let counts = Counts {
-        tables: 0,
-        raw: 0,
-        aligned: 0,
-    };
     Plan {
         refusal,
-        counts,
+        counts: Counts::NONE,
         walk: done(),
     }
 }

@@ -28,6 +28,14 @@ pub struct Counts {
     pub aligned: u32,
 }
 
+impl Counts {
+    pub const NONE: Counts = Counts {
+        tables: 0,
+        raw: 0,
+        aligned: 0,
+    };
+}
+
 // How many events were passed, and the blank line where the walk goes on, if there is one.
 pub struct Read {
     pub events: u32,
@@ -87,11 +95,7 @@ pub fn count(s: &[u8], on: bool, slots: &mut [u8]) -> Counts
     requires { ⌜ length (now s) ≤ 65536 ⌝ }
     ensures { λ r. ⌜ (r ≡ countsOf (tables kindOf on (now (s .entry)))) × Written (alignedOf (tables kindOf on (now (s .entry)))) (now (slots .entry)) (now (slots .exit)) ⌝ }
 {
-    let mut c = Counts {
-        tables: 0,
-        raw: 0,
-        aligned: 0,
-    };
+    let mut c = Counts::NONE;
     let mut p = Point::start();
     loop {
         match next_head(s, p, on) {

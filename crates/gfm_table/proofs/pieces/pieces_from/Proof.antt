@@ -1,15 +1,14 @@
 -- `pieces::pieces_from` meets its contract: what is counted and what is to come make the same sum. The measure is the bytes left.
 -- Assumes nothing.
-use Prim.Native.Nat.{_+_, _-_, _≤_, _<_}
+use Prim.Native.Nat.{_+_, _-_}
 use mathlib.Core.Bool.{false}
-use mathlib.Core.List.{List}
-use mathlib.Core.Path.{_≡_, refl, ap, sym, _∙_}
+use mathlib.Core.Path.{_≡_, refl, sym, _∙_}
 use native.Mathlib.Omega.{arith}
 use borrow.Author.Needs.{needs}
-use lib.ListN.{length, drop}
+use lib.ListN.{length}
 use denote.Ref.{now}
 use Rattle.tokenizer.specs.Bytes.{kindOf}
-use Rattle.tokenizer.proofs.Ahead.{Front, goes, ends}
+use Rattle.tokenizer.proofs.Ahead.{Front, goes}
 use Rattle.gfm_table.specs.Rows.{rowPieces}
 use Rattle.gfm_table.proofs.Passing.{lineFrom, pieces-few, Passes, no-pieces, passes-space, passes-divider, passes-data}
 use Rattle.gfm_table.proofs.pieces.pieces_from.Statement.{statement}
