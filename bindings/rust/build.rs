@@ -1,4 +1,4 @@
-//! Links libpoolsheet.a, out of the folder that POOLSHEET_LIB names, or else of the repository's target/staticlib.
+//! Links libpoolsheet.a, out of the folder that POOLSHEET_LIB names, seen from the repository root, or else of target/staticlib there.
 
 use std::env;
 use std::path::PathBuf;
@@ -6,10 +6,8 @@ use std::path::PathBuf;
 fn main() {
     println!("cargo::rerun-if-changed=build.rs");
     println!("cargo::rerun-if-env-changed=POOLSHEET_LIB");
-    let folder = match env::var_os("POOLSHEET_LIB") {
-        Some(named) => PathBuf::from(named),
-        None => PathBuf::from(env::var_os("CARGO_MANIFEST_DIR").unwrap()).join("../../target/staticlib"),
-    };
+    let root = PathBuf::from(env::var_os("CARGO_MANIFEST_DIR").unwrap()).join("../..");
+    let folder = root.join(env::var_os("POOLSHEET_LIB").unwrap_or_else(|| "target/staticlib".into()));
     let archive = folder.join("libpoolsheet.a");
     println!("cargo::rerun-if-changed={}", archive.display());
     if !archive.is_file() {

@@ -1,8 +1,10 @@
-//! The library's functions, as include/poolsheet.h declares them.
+//! The library's functions, as include/poolsheet.h declares them: what each reads, writes and returns stands there. [`calls`](crate::calls) has
+//! them over slices.
 
 use crate::Event;
 
 extern "C" {
+    /// Counts: events, end, cells.
     pub fn poolsheet_head(
         sheet: *const u8,
         sheet_len: usize,
@@ -15,6 +17,7 @@ extern "C" {
         counts: *mut [usize; 3],
     ) -> u8;
 
+    /// Counts: events, end.
     pub fn poolsheet_row(
         sheet: *const u8,
         sheet_len: usize,
@@ -25,6 +28,7 @@ extern "C" {
         counts: *mut [usize; 2],
     ) -> u8;
 
+    /// Count: result events.
     pub fn poolsheet_resolve(
         list: *const Event,
         list_len: usize,
@@ -33,6 +37,7 @@ extern "C" {
         counts: *mut [usize; 1],
     ) -> u8;
 
+    /// Count: result events.
     pub fn poolsheet_edit(
         list: *const Event,
         list_len: usize,
@@ -45,6 +50,7 @@ extern "C" {
         counts: *mut [usize; 1],
     ) -> u8;
 
+    /// Count: alignments.
     pub fn poolsheet_align(
         list: *const Event,
         list_len: usize,
@@ -54,6 +60,7 @@ extern "C" {
         counts: *mut [usize; 1],
     ) -> u8;
 
+    /// Counts: tables, raw events, result events, alignments.
     pub fn poolsheet_sheet(
         sheet: *const u8,
         sheet_len: usize,

@@ -11,7 +11,7 @@
 //! # Ok::<(), poolsheet::Refusal>(())
 //! ```
 //!
-//! [`calls`] has the library's six calls as they are, over slots that the caller lends.
+//! [`calls`] has the library's six calls as they are, over slots that the caller lends, and [`ffi`] their C declarations.
 //!
 //! The library is linked for x86-64 Linux.
 
@@ -19,7 +19,7 @@
 
 pub mod calls;
 mod event;
-mod ffi;
+pub mod ffi;
 mod refusal;
 mod table;
 

@@ -2,6 +2,7 @@
 
 use crate::asks;
 use crate::tally::Tally;
+use harness::kept::lists::{self, pair};
 use harness::record::{
     Record, DATA, DELIMITER_ROW, DIVIDER, FILLER, HEAD, LINE_ENDING, MARKER, ROW, SPACE_OR_TAB, TABLE, VALUE,
 };
@@ -70,27 +71,9 @@ pub fn heads_and_rows(tally: &mut Tally, length: usize, part: Part) {
     });
 }
 
-fn pair(name: u64) -> [Record; 2] {
-    [Record::enter(name), Record::exit(name)]
-}
-
-fn row(name: u64, pieces: &[u64]) -> Vec<Record> {
-    let inner = pieces.iter().flat_map(|&piece| pair(piece));
-    [Record::enter(name)].into_iter().chain(inner).chain([Record::exit(name)]).collect()
-}
-
 /// A raw table of these pieces, each record at a point that tells its place.
 fn table(head: &[u64], delimiter: &[u64], body: &[&[u64]]) -> Vec<Record> {
-    let mut list = vec![Record::enter(HEAD)];
-    list.extend(row(ROW, head));
-    list.extend(pair(LINE_ENDING));
-    list.extend(row(DELIMITER_ROW, delimiter));
-    list.push(Record::exit(HEAD));
-    for pieces in body {
-        list.extend(pair(LINE_ENDING));
-        list.extend(row(ROW, pieces));
-    }
-    list.iter().zip(1..).map(|(record, place)| record.at(place, place + 100, place + 200)).collect()
+    lists::placed(&lists::table(head, delimiter, body))
 }
 
 const TEXT_PIECES: [u64; 3] = [SPACE_OR_TAB, DIVIDER, DATA];

@@ -1,22 +1,8 @@
-//! The six calls of our reader, as the static library libpoolsheet.a gives them, each behind a safe function of the
-//! same arguments. Each gives back 0 or the number of document 01's refusal.
+//! The six calls of our reader, each behind a safe function of the same arguments, with what it leaves on a refusal too. Each gives
+//! back 0 or the number of document 01's refusal.
 
-use std::mem::size_of;
-
-/// An event record as it lies in the slots.
-#[repr(C)]
-#[derive(Clone, Copy, Debug, Default, Eq, PartialEq)]
-pub struct Event {
-    pub kind: u8,
-    pub name: u8,
-    pub line: u32,
-    pub column: u32,
-    pub index: u32,
-    pub vs: u8,
-    pub link: u8,
-}
-
-const _: () = assert!(size_of::<Event>() == 20);
+use poolsheet::ffi as c;
+pub use poolsheet::Event;
 
 /// An edit: position, removed, pool start, pool count, before (0 is no).
 pub type Five = [usize; 5];
@@ -27,71 +13,6 @@ pub struct HeadFlags {
     pub code_indented: bool,
     pub lazy: bool,
     pub pierced: bool,
-}
-
-mod c {
-    use super::Event;
-
-    extern "C" {
-        pub fn poolsheet_head(
-            sheet: *const u8,
-            sheet_len: usize,
-            offset: usize,
-            code_indented: bool,
-            lazy: bool,
-            pierced: bool,
-            raw: *mut Event,
-            raw_len: usize,
-            counts: *mut [usize; 3],
-        ) -> u8;
-        pub fn poolsheet_row(
-            sheet: *const u8,
-            sheet_len: usize,
-            offset: usize,
-            lazy: bool,
-            raw: *mut Event,
-            raw_len: usize,
-            counts: *mut [usize; 2],
-        ) -> u8;
-        pub fn poolsheet_resolve(
-            list: *const Event,
-            list_len: usize,
-            results: *mut Event,
-            results_len: usize,
-            counts: *mut [usize; 1],
-        ) -> u8;
-        pub fn poolsheet_edit(
-            list: *const Event,
-            list_len: usize,
-            edits: *mut usize,
-            edits_len: usize,
-            pool: *const Event,
-            pool_len: usize,
-            results: *mut Event,
-            results_len: usize,
-            counts: *mut [usize; 1],
-        ) -> u8;
-        pub fn poolsheet_align(
-            list: *const Event,
-            list_len: usize,
-            index: usize,
-            alignments: *mut u8,
-            alignments_len: usize,
-            counts: *mut [usize; 1],
-        ) -> u8;
-        pub fn poolsheet_sheet(
-            sheet: *const u8,
-            sheet_len: usize,
-            code_indented: bool,
-            raw: *mut Event,
-            raw_len: usize,
-            results: *mut Event,
-            results_len: usize,
-            alignments: *mut u8,
-            alignments_len: usize,
-            counts: *mut [usize; 4],
-        ) -> u8;
-    }
 }
 
 /// Head; counts are events, end, cells.

@@ -43,7 +43,8 @@ fn add_of_sheets(kept: &mut Kept) {
     }
 }
 
-fn pair(name: u64) -> [Record; 2] {
+/// A name entered and left.
+pub fn pair(name: u64) -> [Record; 2] {
     [Record::enter(name), Record::exit(name)]
 }
 
@@ -53,7 +54,7 @@ fn row(name: u64, pieces: &[u64]) -> Vec<Record> {
 }
 
 /// A raw table of these pieces, at no points in particular.
-fn table(head: &[u64], delimiter: &[u64], body: &[&[u64]]) -> Vec<Record> {
+pub fn table(head: &[u64], delimiter: &[u64], body: &[&[u64]]) -> Vec<Record> {
     let mut list = vec![Record::enter(HEAD)];
     list.extend(row(ROW, head));
     list.extend(pair(LINE_ENDING));
@@ -67,7 +68,7 @@ fn table(head: &[u64], delimiter: &[u64], body: &[&[u64]]) -> Vec<Record> {
 }
 
 /// The same records, each at a point that tells its place.
-fn placed(list: &[Record]) -> Vec<Record> {
+pub fn placed(list: &[Record]) -> Vec<Record> {
     let places = list.iter().zip(1..);
     places.map(|(record, place)| record.at(place, place + 100, place + 200)).collect()
 }
