@@ -1,2 +1,4 @@
--- What the contracts of the protocol's words cite.
+-- What the contracts of the protocol cite.
 pub mod Words
+pub mod Kept
+pub mod Records

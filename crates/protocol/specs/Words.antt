@@ -1,6 +1,6 @@
 -- Digits, and where words start.
 use Prim.Native.Nat.{ℕ, _+_, _-_, _*_}
-use mathlib.Core.Bool.{cond}
+use mathlib.Core.Bool.{Bool, cond, _&&_}
 use mathlib.Core.List.{List}
 use lib.Dec.{eqb, ltb}
 use lib.ListN.{length, getD}
@@ -16,3 +16,7 @@ pairOf a b = cond (ltb 15 (digitOf a)) 256 (cond (ltb 15 (digitOf b)) 256 (digit
 -- where the next word starts, behind the space at a place; else the line's length
 abbrev pub nextWord : List ℕ → ℕ → ℕ
 nextWord s i = cond (eqb (getD s i 0) 32) (i + 1) (length s)
+
+-- whether a hyphen stands at a place, the last of the line
+abbrev pub isHyphen : List ℕ → ℕ → Bool
+isHyphen s i = eqb (length s) (i + 1) && eqb (getD s i 0) 45

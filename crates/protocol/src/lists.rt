@@ -88,7 +88,9 @@ pub fn event(line: &[u8], at: usize) -> ReadEvent
 }
 
 // Events up to the first word that is none, the line's end, or the n-th, at most 256.
-pub fn events(line: &[u8], at: usize, n: usize) -> ReadEvents {
+pub fn events(line: &[u8], at: usize, n: usize) -> ReadEvents
+    ensures { λ r. ⌜ (r .count ≤ n) × (r .count ≤ 256) ⌝ }
+{
     let mut events = [Event::BLANK; 256];
     let mut i = at;
     let mut count = 0;
@@ -113,7 +115,9 @@ pub fn events(line: &[u8], at: usize, n: usize) -> ReadEvents {
 }
 
 // Numbers up to the first word that is none, the line's end, or the n-th, at most 256.
-pub fn numbers(line: &[u8], at: usize, n: usize) -> ReadNumbers {
+pub fn numbers(line: &[u8], at: usize, n: usize) -> ReadNumbers
+    ensures { λ r. ⌜ (r .count ≤ n) × (r .count ≤ 256) ⌝ }
+{
     let mut numbers = [0usize; 256];
     let mut i = at;
     let mut count = 0;

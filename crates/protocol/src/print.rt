@@ -6,7 +6,9 @@ use gfm_table::calls::Head;
 use gfm_table::calls::Row;
 use libc::STDOUT_FILENO;
 use tokenizer::event::Event;
+ghost use mathlib.Core.Path.{_≡_};
 ghost use Prim.Native.Nat.{_≤_};
+ghost use Rattle.protocol.specs.Records.{isBlank};
 
 // Some bytes.
 pub fn text(s: &[u8]) {
@@ -48,11 +50,28 @@ pub fn event(e: Event) {
 }
 
 // Whether a slot is blank.
-pub fn is_blank(e: Event) -> bool {
-    if e.kind != 0 || e.name != 0 || e.vs != 0 || e.link != 0 {
+pub fn is_blank(e: Event) -> bool
+    ensures { λ r. ⌜ r ≡ isBlank e ⌝ }
+{
+    if e.kind != 0 {
         return false;
     }
-    e.line == 0 && e.column == 0 && e.index == 0
+    if e.name != 0 {
+        return false;
+    }
+    if e.line != 0 {
+        return false;
+    }
+    if e.column != 0 {
+        return false;
+    }
+    if e.index != 0 {
+        return false;
+    }
+    if e.vs != 0 {
+        return false;
+    }
+    e.link == 0
 }
 
 // How many of the first n slots stand up to the last that is not blank; none where n is above 256.

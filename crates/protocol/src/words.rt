@@ -3,7 +3,7 @@ ghost use mathlib.Core.Path.{_≡_};
 ghost use Prim.Native.Nat.{_≤_};
 ghost use lib.ListN.{length};
 ghost use Rattle.io.specs.Counts.{Counts};
-ghost use Rattle.protocol.specs.Words.{digitOf, pairOf, nextWord};
+ghost use Rattle.protocol.specs.Words.{digitOf, pairOf, nextWord, isHyphen};
 
 // Whether a number was readable, the number, or 0, and where the next word starts.
 pub struct ReadNumber {
@@ -159,7 +159,9 @@ pub fn flag(line: &[u8], at: usize) -> ReadFlag
 }
 
 // Whether the last word is a hyphen: no bytes.
-pub fn is_hyphen(line: &[u8], at: usize) -> bool {
+pub fn is_hyphen(line: &[u8], at: usize) -> bool
+    ensures { λ r. ⌜ r ≡ isHyphen (now (line .entry)) at ⌝ }
+{
     if at < line.len() {
         if line.len() - at == 1 {
             return line[at] == 45;

@@ -1,4 +1,4 @@
--- `lists::events` is safe and ends: the count stays within the array.
+-- `lists::events` meets its contract: the count stays within the number asked for and the array.
 -- Assumes nothing.
 use borrow.Author.Needs.{needs}
 use Prim.Native.Nat.{_≤_, _-_}
@@ -6,7 +6,7 @@ use Rattle.protocol.proofs.lists.events.Statement.{statement}
 use Rattle.protocol.proofs.lists.events.Tie as tie
 
 abbrev Inv-loop : tie.InvT-loop
-Inv-loop line at n events₀ i₀ count₀ events i count = count ≤ 256
+Inv-loop line at n events₀ i₀ count₀ events i count = (count ≤ n) × (count ≤ 256)
 
 abbrev μ-loop : tie.MeasureT-loop
 μ-loop line at n events₀ i₀ count₀ events i count = 256 - count
