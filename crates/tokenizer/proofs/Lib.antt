@@ -28,4 +28,5 @@ pub mod Onward
 pub mod Turning
 pub mod Types
 pub mod Blanks
+pub mod Writing
 pub mod Prelude

@@ -1,7 +1,7 @@
 -- Slots for events that are lent: what stands in one, and what is in all of them once a stream is written, or once they are cleared.
 use Prim.Native.Nat.{ℕ, zero, suc}
 use mathlib.Core.List.{List, [], _∷_}
-use lib.ListN.{getD, drop}
+use lib.ListN.{getD, set, drop}
 use Rattle.tokenizer.specs.declared.event.Event.{Event}
 use Rattle.tokenizer.specs.Events.{blankEvent}
 
@@ -19,3 +19,8 @@ unfoldable pub clearedFrom : ℕ → List Event → List Event
 clearedFrom n [] = []
 clearedFrom zero (x ∷ xs) = blankEvent ∷ clearedFrom zero xs
 clearedFrom (suc n) (x ∷ xs) = x ∷ clearedFrom n xs
+
+-- slots of which those from the i-th on are written with some events, as far as there are slots; the others stay
+unfoldable pub wrote : ℕ → List Event → List Event → List Event
+wrote i [] zs = zs
+wrote i (e ∷ es) zs = wrote (suc i) es (set zs i e)

@@ -1,6 +1,7 @@
-// Slots for events that are lent: one is read, and all from a place on are cleared.
+// Slots for events that are lent: one is read, one is written, and all from a place on are cleared.
 use crate::event::Event;
 ghost use mathlib.Core.Path.{_≡_};
+ghost use lib.ListN.{set};
 ghost use Rattle.tokenizer.specs.Slots.{eventAt, clearedFrom};
 
 // The event at a place, or a blank one past the end.
@@ -11,6 +12,15 @@ pub fn at_or_blank(list: &[Event], i: usize) -> Event
         list[i]
     } else {
         Event::BLANK
+    }
+}
+
+// A slot is written, where there is one.
+pub fn put(slots: &mut [Event], i: usize, e: Event)
+    ensures { λ _. ⌜ now (slots .exit) ≡ set (now (slots .entry)) i e ⌝ }
+{
+    if i < slots.len() {
+        slots[i] = e;
     }
 }
 
