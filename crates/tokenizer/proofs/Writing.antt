@@ -3,11 +3,12 @@
 use Prim.Native.Nat.{ℕ, zero, suc, _+_, _≤_}
 use mathlib.Core.Path.{_≡_, refl, sym, ap, _∙_}
 use mathlib.Core.List.{List, [], _∷_, _++_}
-use lib.ListN.{length, set, replicate, length-set}
+use mathlib.Core.Bool.{Bool, true, false}
+use lib.ListN.{length, set, length-set}
+use lib.Seq.{set-out}
 use native.Mathlib.Omega.{arith}
 use Rattle.tokenizer.specs.declared.event.Event.{Event}
-use Rattle.tokenizer.specs.Events.{blankEvent}
-use Rattle.tokenizer.specs.Slots.{slotsOf, clearedFrom, wrote}
+use Rattle.tokenizer.specs.Slots.{slotsOf, clearedFrom, wrote, nowhere, slotIf, pastIf, eventIf}
 use Rattle.tokenizer.proofs.Blanks.{slots-none, cleared-all}
 
 -- nothing, and one event
@@ -48,3 +49,13 @@ unfolding wrote clearedFrom slotsOf
 wrote-cleared [] zs h = cleared-all zs ∙ sym (slots-none (length zs))
 wrote-cleared (e ∷ es) [] h = absurd (omega arith)
 wrote-cleared (e ∷ es) (z ∷ zs) h = ap (clearedFrom (suc (length es))) (behind-first 0 es e zs) ∙ ap (λ (l : List Event). e ∷ l) (wrote-cleared es zs (omega arith))
+
+-- one event, or none, is written by its place
+pub wrote-if : (b : Bool) (i : ℕ) (e : Event) (zs : List Event) → length zs ≤ nowhere → set zs (slotIf b i) e ≡ wrote i (eventIf b e) zs
+unfolding wrote
+wrote-if true i e zs h = refl
+wrote-if false i e zs h = set-out zs nowhere e h
+
+pub past-if : (b : Bool) (i : ℕ) (e : Event) → pastIf b i ≡ i + length (eventIf b e)
+past-if true i e = refl
+past-if false i e = omega arith

@@ -1,6 +1,7 @@
 -- Slots for events that are lent: what stands in one, and what is in all of them once a stream is written, or once they are cleared.
-use Prim.Native.Nat.{ℕ, zero, suc}
+use Prim.Native.Nat.{ℕ, zero, suc, _+_}
 use mathlib.Core.List.{List, [], _∷_}
+use mathlib.Core.Bool.{Bool, cond}
 use lib.ListN.{getD, set, drop}
 use Rattle.tokenizer.specs.declared.event.Event.{Event}
 use Rattle.tokenizer.specs.Events.{blankEvent}
@@ -24,3 +25,19 @@ clearedFrom (suc n) (x ∷ xs) = x ∷ clearedFrom n xs
 unfoldable pub wrote : ℕ → List Event → List Event → List Event
 wrote i [] zs = zs
 wrote i (e ∷ es) zs = wrote (suc i) es (set zs i e)
+
+-- a place past every slot
+abbrev pub nowhere : ℕ
+nowhere = 18446744073709551615
+
+-- the place of a slot that is written, or one past all slots
+abbrev pub slotIf : Bool → ℕ → ℕ
+slotIf b i = cond b i nowhere
+
+-- the place behind a slot that is written, or the same place
+abbrev pub pastIf : Bool → ℕ → ℕ
+pastIf b i = cond b (i + 1) i
+
+-- one event, or none
+abbrev pub eventIf : Bool → Event → List Event
+eventIf b e = cond b (e ∷ []) []

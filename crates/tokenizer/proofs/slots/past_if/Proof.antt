@@ -1,0 +1,17 @@
+-- `slots::past_if` meets its contract.
+-- Assumes nothing.
+use borrow.Author.Needs.{needs}
+use Rattle.tokenizer.proofs.slots.past_if.Statement.{statement}
+use Rattle.tokenizer.proofs.slots.past_if.Tie as tie
+
+add-result : tie.Need-add-result
+add-result c = search needs
+
+returns : tie.Need-returns
+returns c = rw (c .if1 .taken)
+
+returns-2 : tie.Need-returns-2
+returns-2 c = search needs
+
+pub past-if-spec : {M : Type 1} → statement M
+past-if-spec = tie.close (tie.spec add-result returns returns-2)
