@@ -29,4 +29,5 @@ pub mod Turning
 pub mod Types
 pub mod Blanks
 pub mod Writing
+pub mod Puts
 pub mod Prelude
