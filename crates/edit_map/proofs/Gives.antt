@@ -17,6 +17,7 @@ use Rattle.edit_map.specs.declared.resolve_base.Part.the-variants.{Heade
 use Rattle.edit_map.specs.declared.resolve_turn.Mode.{Mode}
 use Rattle.edit_map.specs.declared.resolve_turn.Turn.{Turn}
 use Rattle.edit_map.specs.Tables.{named, isText, isSolid, anySolid, anyText, cells, firstCell, otherCells, before, lastText, afterText, uptoText, rowInner, delimiterInner, boundary, cellEvents}
+use Rattle.edit_map.specs.Cells.{textAhead, later, lastAhead}
 use Rattle.edit_map.specs.Base.{isRowName, isTextName}
 use Rattle.edit_map.specs.Turns.{cellName, valueName, valuePhase, plain, given, pieceTurn}
 use Rattle.edit_map.proofs.Stream.{turnAt, aheadOf, solidOf, onward, first, rest}
@@ -65,24 +66,10 @@ pub data AllFine : List Passed → Type 0 where
 
 -- ## What is ahead of a piece
 
--- a text comes before the first divider
-unfoldable pub textAhead : List Passed → Bool
-textAhead [] = false
-textAhead (x ∷ xs) = isText x || (not (named GfmTableCellDivider x) && textAhead xs)
-
--- the pieces after the last text before the first divider
-unfoldable pub later : List Passed → List Passed
-later [] = []
-later (x ∷ xs) = cond (textAhead (x ∷ xs)) (later xs) (x ∷ xs)
-
 -- the records from the exit of x up to the exit of the last text
 unfoldable pub gap : Passed → List Passed → List Event
 gap x [] = []
 gap x (y ∷ ys) = cond (textAhead (y ∷ ys)) (x .exit ∷ y .entry ∷ gap y ys) []
-
-unfoldable pub lastAhead : Passed → List Passed → Passed
-lastAhead x [] = x
-lastAhead x (y ∷ ys) = cond (textAhead (y ∷ ys)) (lastAhead y ys) x
 
 -- the cell that goes on
 abbrev pub cell : List Passed → List Passed
@@ -110,7 +97,7 @@ no-text (also {x = x} {xs = xs} f g) e = go (f .sort) (no-text g)
     go (text q) ih = absurd (true≢false (rw (q .space) at e))
 
 -- a text ahead is one of the cell
-is-ahead : {xs : List Passed} → AllFine xs → anyText (cell xs) ≡ textAhead xs
+pub is-ahead : {xs : List Passed} → AllFine xs → anyText (cell xs) ≡ textAhead xs
 unfolding cells anyText textAhead
 is-ahead done = refl
 is-ahead (also {x = x} {xs = xs} f g) = go (f .sort) (anySolid xs) refl (is-ahead g)
@@ -169,7 +156,7 @@ text-in {x} {xs} f g e =
     (s, ap (λ (l : List (List Passed)). anyText (firstCell l)) (sym s) ∙ is-ahead (also f g) ∙ e)
 
 -- after the value the cell goes on with what stands behind it
-goes-on : {xs : List Passed} → AllFine xs → cells true (later xs) ≡ afterText (cell xs) ∷ otherCells (cells true xs)
+pub goes-on : {xs : List Passed} → AllFine xs → cells true (later xs) ≡ afterText (cell xs) ∷ otherCells (cells true xs)
 unfolding cells afterText later
 goes-on done = refl
 goes-on (also {x = x} {xs = xs} f g) = go (textAhead (x ∷ xs)) refl (goes-on g)
@@ -179,7 +166,7 @@ goes-on (also {x = x} {xs = xs} f g) = go (textAhead (x ∷ xs)) refl (goes-on g
     go false e ih = some-cell true (x ∷ xs) ∙ rw (all-after (cell (x ∷ xs)) (is-ahead (also f g) ∙ e))
 
 -- the value ends with the last text ahead
-last-is : (x : Passed) {xs : List Passed} → AllFine xs → lastAhead x xs ≡ lastText x (cell xs)
+pub last-is : (x : Passed) {xs : List Passed} → AllFine xs → lastAhead x xs ≡ lastText x (cell xs)
 unfolding cells lastText lastAhead
 last-is x done = refl
 last-is x (also {x = y} {xs = ys} f g) = go (textAhead (y ∷ ys)) refl (last-is y g)
@@ -276,11 +263,11 @@ inner-plain Header true x c h = rw h
 inner-plain Delimiter true x c h = rw h
 inner-plain Body true x c h = rw h
 
-and-none : (b : Bool) {c : Bool} → c ≡ false → b && c ≡ false
+pub and-none : (b : Bool) {c : Bool} → c ≡ false → b && c ≡ false
 and-none true e = e
 and-none false e = refl
 
-none-and : {b : Bool} (c : Bool) → b ≡ false → b && c ≡ false
+pub none-and : {b : Bool} (c : Bool) → b ≡ false → b && c ≡ false
 none-and c e = rw e
 
 one-less : (n : ℕ) → suc n - 1 ≡ n
@@ -305,7 +292,7 @@ module _ (p : Part) where
   value-turn y es true q = rw (q .row, q .divider, q .text)
   value-turn y es false q = rw (q .row, q .text)
 
-value-cells : (y : Passed) (ys : List Passed) (seen : Bool) → Tests false false false true (y .entry .name) → cells seen (y ∷ ys) ≡ before y (cells true ys)
+pub value-cells : (y : Passed) (ys : List Passed) (seen : Bool) → Tests false false false true (y .entry .name) → cells seen (y ∷ ys) ≡ before y (cells true ys)
 unfolding cells
 value-cells y ys true q = rw (q .divider)
 value-cells y ys false q = rw (q .space)

@@ -18,10 +18,15 @@ pub mod Types
 pub mod Bools
 pub mod Stream
 pub mod Gives
+pub mod Cells
+pub mod Spans
 pub mod Streams
 pub mod Steps
 pub mod Parse
 pub mod RawRows
+pub mod CellTurns
+pub mod CellRows
+pub mod CellTypes
 pub mod Aligns
 pub mod Resolving
 pub mod Calls

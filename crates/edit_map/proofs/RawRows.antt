@@ -42,7 +42,7 @@ module _ (kind : ℕ → ℕ) where
       go false true = refl
       go false false = refl
 
-  rows-named : (odd : Bool) (s : List ℕ) → Named rowPiece (rowPieces kind odd s)
+  pub rows-named : (odd : Bool) (s : List ℕ) → Named rowPiece (rowPieces kind odd s)
   unfolding rowPieces
   rows-named odd [] = Named.none
   rows-named odd (b ∷ s) = on-named (rowName kind odd b) b (row-name odd b) (rows-named (oddAfter kind odd b) s)
@@ -56,7 +56,7 @@ module _ (kind : ℕ → ℕ) where
       go false false true = refl
       go false false false = refl
 
-  delimiters-named : (s : List ℕ) → Named delimiterPiece (delimiterPieces kind s)
+  pub delimiters-named : (s : List ℕ) → Named delimiterPiece (delimiterPieces kind s)
   unfolding delimiterPieces
   delimiters-named [] = Named.none
   delimiters-named (b ∷ s) = on-named (delimiterName kind b) b (delimiter-name b) (delimiters-named s)
@@ -68,7 +68,7 @@ leaves-own : (n : ℕ) (p : Point) → leaves n (leave n p) ≡ true
 leaves-own n p = rw (eq-eqb n n refl)
 
 -- entered and left from a point on
-passed-are : {ok : ℕ → Bool} (p : Point) {xs : List Piece} → Named ok xs → ArePieces ok (passed p xs)
+pub passed-are : {ok : ℕ → Bool} (p : Point) {xs : List Piece} → Named ok xs → ArePieces ok (passed p xs)
 unfolding passed
 passed-are p Named.none = ArePieces.none
 passed-are p (named {x = x} h hs) = ArePieces.piece (record { known = h; enter = enters-own (x .name) p; leave = leaves-own (x .name) (past p (x .text)) }) (passed-are (past p (x .text)) hs)

@@ -47,7 +47,7 @@ sort-delimiter n =
     either (eqb n 1 || eqb n 10) (eqb n 12 || eqb n 15) (either (eqb n 1) (eqb n 10) (sort-at n 1 a-space) (sort-at n 10 a-divider))
     (either (eqb n 12) (eqb n 15) (sort-at n 12 (a-text 12 refl refl refl refl)) (sort-at n 15 (a-text 15 refl refl refl refl)))
 
-all-fine : {allowed : ℕ → Bool} → ((n : ℕ) → allowed n ≡ true → Sort n) → {xs : List Passed} → ArePieces allowed xs → AllFine xs
+pub all-fine : {allowed : ℕ → Bool} → ((n : ℕ) → allowed n ≡ true → Sort n) → {xs : List Passed} → ArePieces allowed xs → AllFine xs
 all-fine sort ArePieces.none = done
 all-fine sort (ArePieces.piece {x = x} h hs) = also (record { same = named-so 2 (x .entry .name) (x .exit) (h .leave); sort = sort (x .entry .name) (h .known) }) (all-fine sort hs)
 

@@ -6,6 +6,9 @@ pub mod EditCursor
 pub mod EditSettles
 pub mod Base
 pub mod Tables
+pub mod Cells
+pub mod Spans
+pub mod CellRows
 pub mod Raw
 pub mod Accept
 pub mod TablesOf

@@ -1,5 +1,8 @@
 // The edit map, the resolver and the alignments.
 
+pub mod cell_rows;
+pub mod cell_spans;
+pub mod cell_steps;
 pub mod edit_count;
 pub mod edit_fits;
 pub mod edit_map;

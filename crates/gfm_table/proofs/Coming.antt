@@ -29,10 +29,18 @@ use Rattle.gfm_table.specs.Stream.{nameOf, piecesOf, overAt, breakOf, st
 use Rattle.gfm_table.proofs.Machine as M
 use Rattle.gfm_table.proofs.Fillers as F
 
+-- no bytes have no pieces
+pub no-pieces : (t : Part) → piecesOf t [] ≡ []
+unfolding rowPieces delimiterPieces
+no-pieces Head = refl
+no-pieces Delimiter = refl
+no-pieces Body = refl
+
 -- ## The first piece at a point
 
 pub record Piecing (s : List ℕ) (t : Part) (p : Point) (n : ℕ) (u : List ℕ) : Type 0 where
   pub pieces : piecesOf t (restOf s p) ≡ record { name = n; text = u } ∷ piecesOf t (restOf s (past p u))
+  pub long : 0 < length u
   pub line : past (past p u) (restOf s (past p u)) ≡ past p (restOf s p)
   pub inside : Inside s (past p u)
 
@@ -49,10 +57,10 @@ module _ (s : List ℕ) (p : Point) (h : Inside s p) where
   same-line u e = past-append p u (restOf s (past p u)) ∙ ap (past p) (sym e)
 
   text : {n : ℕ} {u : List ℕ} → M.First s p n u → Next s Body p
-  text {n} {u} f = some (record { pieces = f .pieces; line = same-line u (f .line); inside = f .inside })
+  text {n} {u} f = some (record { pieces = f .pieces; long = f .some; line = same-line u (f .line); inside = f .inside })
 
   mark : {n : ℕ} {u : List ℕ} → F.First s p n u → Next s Delimiter p
-  mark {n} {u} f = some (record { pieces = f .pieces; line = same-line u (f .line); inside = f .inside })
+  mark {n} {u} f = some (record { pieces = f .pieces; long = f .some; line = same-line u (f .line); inside = f .inside })
 
   next-text : Next s Body p
   next-text = go (eqb kind 2) (eqb kind 1) (eqb kind 3) refl refl refl
@@ -77,7 +85,7 @@ module _ (s : List ℕ) (p : Point) (h : Inside s p) where
 
   head-text : Next s Body p → Next s Head p
   head-text (none e) = none e
-  head-text (some f) = some (record { pieces = f .pieces; line = f .line; inside = f .inside })
+  head-text (some f) = some (record { pieces = f .pieces; long = f .long; line = f .line; inside = f .inside })
 
   pub next-piece : (t : Part) → Next s t p
   next-piece Head = head-text next-text
@@ -128,20 +136,11 @@ module _ (s : List ℕ) (rest : Point → List Event) where
     over : {p : Point} → coming c ≡ rest p → r ≡ overAt p → Steps c r
 
   module _ (t : Part) (p : Point) (h : Inside s p) where
-    no-pieces : piecesOf t [] ≡ []
-    unfolding rowPieces delimiterPieces
-    no-pieces = go t
-      where
-        go : (t : Part) → piecesOf t [] ≡ []
-        go Head = refl
-        go Delimiter = refl
-        go Body = refl
-
     -- where nothing is left, the row ends at the point
     row-over : restOf s p ≡ [] → Steps (Between t p) (stepOf s (Between t p))
     unfolding coming allBoth passed
     row-over e =
-        let n : piecesOf t (restOf s p) ≡ [] = ap (piecesOf t) e ∙ no-pieces in
+        let n : piecesOf t (restOf s p) ≡ [] = ap (piecesOf t) e ∙ no-pieces t in
         let q : past p (restOf s p) ≡ p = ap (past p) e ∙ past-none p (h .flat) in
         rw n
         (gives

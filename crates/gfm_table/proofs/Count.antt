@@ -67,7 +67,7 @@ walked-solids q (x ∷ xs) = walked-solids (stepped q x) xs ∙ go (eqb (x .name
 -- ## Its cells
 
 -- the cells that begin with these pieces, where a divider stands before them or not
-begun : Bool → List Piece → ℕ
+unfoldable pub begun : Bool → List Piece → ℕ
 begun seen [] = 0
 begun seen (x ∷ xs) = cond seen 1 0 + begun (isDivider x) xs
 
@@ -148,6 +148,13 @@ solids-lone (x ∷ []) true e = sym e
 solids-lone (x ∷ []) false e = sym e
 solids-lone (x ∷ y ∷ xs) l e = lt-leb (cond l 0 1 + length (x ∷ y ∷ xs)) 1 (omega arith)
 
+-- the counters of a head line, by whether a divider leads
+pub head-cells : (u : List ℕ) → begun (not (pipeFirst (unindented kindOf u))) (solid (rowPieces kindOf false u)) ≡ headCells kindOf u
+head-cells u = cells-begun (solid (rowPieces kindOf false u)) (pipeFirst (unindented kindOf u)) (starts-row u)
+
+pub head-lone : (u : List ℕ) → leb (cond (pipeFirst (unindented kindOf u)) 0 1 + length (solid (rowPieces kindOf false u))) 1 ≡ loneDivider (solid (rowPieces kindOf false u))
+head-lone u = solids-lone (solid (rowPieces kindOf false u)) (pipeFirst (unindented kindOf u)) (starts-row u)
+
 -- ## A whole row
 
 pub row-whole : (s : List ℕ) (p : Point) → p .vs ≡ 0 → RowRead (restOf s p) p (whole s (startAt s p))
@@ -155,11 +162,10 @@ row-whole s p e =
     let u = restOf s p in
     let q = startAt s p in
     let ps = rowPieces kindOf false u in
-    let l = pipeFirst (unindented kindOf u) in
     record {
       pieces = walked-count q ps ∙ omega arith;
-      cells = walked-cells q ps ∙ omega (arith, cells-begun (solid ps) l (starts-row u));
-      lone = ap (λ (n : ℕ). leb n 1) (walked-solids q ps) ∙ solids-lone (solid ps) l (starts-row u);
+      cells = walked-cells q ps ∙ omega (arith, head-cells u);
+      lone = ap (λ (n : ℕ). leb n 1) (walked-solids q ps) ∙ head-lone u;
       end = walked-at q ps e ∙ ap (past p) (texts-row kindOf false u);
     }
 

@@ -2,26 +2,22 @@
 -- Assumes nothing.
 use Prim.Native.Nat.{ℕ, _+_, _≤_, _<_}
 use mathlib.Core.Path.{_≡_, refl, ap, sym, _∙_}
-use mathlib.Core.Bool.{Bool, true, false, cond, not}
+use mathlib.Core.Bool.{Bool, true, false, cond}
 use mathlib.Core.List.{List, [], _∷_, _++_}
 use mathlib.Core.Logic.{_⊎_, inl, inr}
 use native.Mathlib.Omega.{arith}
 use borrow.Author.Tests.{eqb-true, eqb-false, ne-eqb, ltb-true, ltb-false}
 use lib.Dec.{eqb, ltb}
-use lib.ListN.{length, drop, getD}
+use lib.ListN.{length, getD}
 use Rattle.tokenizer.specs.declared.event.Point.{Point}
-use Rattle.gfm_table.specs.declared.states.Scan.{Scan}
-use Rattle.gfm_table.specs.declared.states.Step.{Step}
-use Rattle.gfm_table.specs.declared.states.Step.the-variants.{Paused, Ended}
 use Rattle.tokenizer.specs.Bytes.{kindOf}
 use Rattle.tokenizer.specs.Points.{past}
 use Rattle.gfm_table.specs.Rows.{Piece, onPieces, delimiterName, delimiterPieces}
 use Rattle.tokenizer.specs.Lines.{indent, unindented}
 use Rattle.tokenizer.specs.Lines.{lineBody}
 use Rattle.tokenizer.specs.Moves.{aheadOf, restOf, overAt, Inside}
-use Rattle.gfm_table.specs.Machine.{passedTo, Counted}
-use Rattle.gfm_table.specs.Delimiters.{fillerRun, fillerRest, delimiterPiecesAt, afterOne, NextPiece}
-use Rattle.tokenizer.proofs.Ahead.{Front, ends, line-case, rest-past, inside-past}
+use Rattle.gfm_table.specs.Delimiters.{fillerRun, fillerRest, delimiterPiecesAt}
+use Rattle.tokenizer.proofs.Ahead.{Front, line-case, rest-past, inside-past}
 use Rattle.tokenizer.proofs.Runs.{split, space-on, space-split}
 use Rattle.gfm_table.proofs.Runs.{led, led-some, apart, apart-on, join}
 use Rattle.gfm_table.proofs.Delimiters.{View, view, space, pipe, hyphen, colon, other}
@@ -147,40 +143,3 @@ module _ (s : List ℕ) (p : Point) (k : ℕ) (f : Front s (p .index) k) (h : In
       let u = restOf s p in
       let l : 0 < length (fillerRun kindOf u) = rw (f .line, filler-on kindOf _ _ (rw (f .kind) (far k a b c)) (λ z. d (sym (f .kind) ∙ z))) (omega arith) in
       first s p 15 (fillerRun kindOf u) (fillerRest kindOf u) h (sym (filler-split kindOf u)) l (filler-led kindOf u ∙ led-some 15 _ _ l)
-
--- ## The next piece
-
-pub next-end : (s : List ℕ) (q : Scan) → aheadOf kindOf (drop (q .at .index) s) ≡ 2 → Counted s q → NextPiece s q (Ended q)
-unfolding delimiterPieces
-next-end s q e h =
-    let n : delimiterPiecesAt s (q .at) ≡ [] = ap (delimiterPieces kindOf) (ends (drop (q .at .index) s) e) in
-    record { is = rw n; left = rw n; good = h }
-
-pub next-piece : (s : List ℕ) (q : Scan) (n : ℕ) (t : List ℕ) → First s (q .at) n t → Counted s q → NextPiece s q (Paused (passedTo n (past (q .at) t) q))
-next-piece s q n t f h =
-    let l = f .some in
-    record {
-      is = rw (f .pieces);
-      left = rw (f .pieces);
-      good = record { inside = f .inside; few = omega (arith, h .few); cells = omega (arith, h .cells); solids = omega (arith, h .solids) };
-    }
-
--- ## How many
-
-module _ (s : List ℕ) (q p : Scan) where
-  pub next-count : NextPiece s q (Paused p) → (p .count ≡ q .count + 1) × (p .count + length (delimiterPiecesAt s (p .at)) ≡ q .count + length (delimiterPiecesAt s (q .at)))
-  next-count h = go (delimiterPiecesAt s (q .at)) (h .is) (h .left)
-    where
-      go : (xs : List Piece) → Paused p ≡ afterOne q xs → delimiterPiecesAt s (p .at) ≡ drop 1 xs → (p .count ≡ q .count + 1) × (p .count + length (delimiterPiecesAt s (p .at)) ≡ q .count + length xs)
-      go [] e l = absurd (let z : _≡_ {A = ℕ} 0 1 = cc in omega arith)
-      go (x ∷ xs) e l =
-          let i : p ≡ passedTo (x .name) (past (q .at) (x .text)) q = cc in
-          let n : p .count ≡ q .count + 1 = ap (λ (o : Scan). o .count) i in
-          (n, omega (arith, ap length l))
-
-  pub none-count : NextPiece s q (Ended p) → p .count ≡ q .count + length (delimiterPiecesAt s (q .at))
-  none-count h = go (delimiterPiecesAt s (q .at)) (h .is)
-    where
-      go : (xs : List Piece) → Ended p ≡ afterOne q xs → p .count ≡ q .count + length xs
-      go [] e = let i : p ≡ q = cc in omega (arith, ap (λ (o : Scan). o .count) i)
-      go (x ∷ xs) e = absurd (let z : _≡_ {A = ℕ} 0 1 = cc in omega arith)

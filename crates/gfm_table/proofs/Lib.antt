@@ -10,5 +10,9 @@ pub mod Answers
 pub mod Coming
 pub mod Plans
 pub mod Passing
+pub mod Placing
+pub mod Writing
+pub mod HeadRows
+pub mod Marks
 pub mod Known
 pub mod Types

@@ -10,7 +10,7 @@ use lib.ListN.{length, drop, getD, length-append}
 use Rattle.tokenizer.specs.declared.event.Point.{Point}
 use Rattle.tokenizer.specs.Bytes.{kindOf}
 use Rattle.tokenizer.specs.Lines.{lineBody, indent, unindented}
-use Rattle.tokenizer.specs.Moves.{aheadOf}
+use Rattle.tokenizer.specs.Moves.{aheadOf, Inside}
 use Rattle.tokenizer.proofs.Ahead.{Front, ends, rest-past, run-stops}
 use Rattle.tokenizer.proofs.Runs.{indent-run, space-on, space-split}
 use Rattle.gfm_table.specs.Rows.{Piece, rowPieces}
@@ -23,17 +23,19 @@ abbrev pub lineFrom : List ℕ → ℕ → List ℕ
 lineFrom s i = lineBody (drop i s)
 
 -- a point there
-abbrev pointOf : ℕ → Point
+abbrev pub pointOf : ℕ → Point
 pointOf i = record { line = 0; column = 0; index = i; vs = 0 }
 
 -- after a stretch of a line
 line-past : (s : List ℕ) (i : ℕ) (a t : List ℕ) → lineFrom s i ≡ a ++ t → lineFrom s (i + length a) ≡ t
 line-past s i a t e = rest-past s (pointOf i) a t e
 
+pub point-inside : (s : List ℕ) (i : ℕ) → length s ≤ 65536 → i ≤ length s → Inside s (pointOf i)
+point-inside s i h l = record { short = h; within = l; narrow = omega arith; lined = omega arith; flat = refl }
+
 -- there are no more pieces than bytes
 pub pieces-few : (s : List ℕ) (i : ℕ) → length s ≤ 65536 → i ≤ length s → length (rowPieces kindOf false (lineFrom s i)) ≤ 65536
-pieces-few s i h l =
-    omega (arith, row-few kindOf false (lineFrom s i), rest-few s (pointOf i) (record { short = h; within = l; narrow = omega arith; lined = omega arith; flat = refl }))
+pieces-few s i h l = omega (arith, row-few kindOf false (lineFrom s i), rest-few s (pointOf i) (point-inside s i h l))
 
 -- ## Runs
 
@@ -61,8 +63,10 @@ module _ (s : List ℕ) (i : ℕ) where
 
 -- ## Pieces
 
--- one piece is passed, from i to j
-pub record Passes (s : List ℕ) (i j : ℕ) : Type 0 where
+-- one piece of the name n is passed, from i to j
+pub record Passes (s : List ℕ) (i j n : ℕ) : Type 0 where
+  pub text : List ℕ
+  pub pieces : rowPieces kindOf false (lineFrom s i) ≡ record { name = n; text = text } ∷ rowPieces kindOf false (lineFrom s j)
   pub fewer : length (rowPieces kindOf false (lineFrom s i)) ≡ 1 + length (rowPieces kindOf false (lineFrom s j))
   pub stop : i + length (lineFrom s i) ≡ j + length (lineFrom s j)
   pub onward : i < j
@@ -72,28 +76,30 @@ pub no-pieces : (s : List ℕ) (i : ℕ) → aheadOf kindOf (drop i s) ≡ 2 →
 unfolding rowPieces
 no-pieces s i e = let h = ends (drop i s) e in (ap (λ (u : List ℕ). length (rowPieces kindOf false u)) h, ap length h)
 
-passes : (s : List ℕ) (i j n : ℕ) (t u : List ℕ) → j ≡ i + length t → lineFrom s i ≡ t ++ u → 0 < length t → rowPieces kindOf false (lineFrom s i) ≡ record { name = n; text = t } ∷ rowPieces kindOf false u → Passes s i j
+passes : (s : List ℕ) (i j n : ℕ) (t u : List ℕ) → j ≡ i + length t → lineFrom s i ≡ t ++ u → 0 < length t → rowPieces kindOf false (lineFrom s i) ≡ record { name = n; text = t } ∷ rowPieces kindOf false u → Passes s i j n
 passes s i j n t u d e l f =
     let h = ap (lineFrom s) d ∙ line-past s i t u e in
     record {
+      text = t;
+      pieces = f ∙ ap (λ (r : List ℕ). record { name = n; text = t } ∷ rowPieces kindOf false r) (sym h);
       fewer = omega (arith, ap length f, ap (λ (r : List ℕ). length (rowPieces kindOf false r)) h);
       stop = omega (arith, d, ap length e, length-append t u, ap length h);
       onward = omega (arith, d, l);
     }
 
 module _ (s : List ℕ) (i j : ℕ) where
-  pub passes-space : Front s i 1 → j ≡ i + 1 + length (indent kindOf (lineFrom s (i + 1))) → Passes s i j
+  pub passes-space : Front s i 1 → j ≡ i + 1 + length (indent kindOf (lineFrom s (i + 1))) → Passes s i j 1
   passes-space f e =
       let u = lineFrom s i in
       let m = spaces-more s i f in
       let l : 0 < length (indent kindOf u) = omega (arith, m) in
       passes s i j 1 (indent kindOf u) (unindented kindOf u) (omega (arith, e, m)) (sym (space-split kindOf u)) l (space-pieces kindOf u ∙ led-some 1 _ _ l)
 
-  pub passes-divider : Front s i 3 → j ≡ i + 1 → Passes s i j
+  pub passes-divider : Front s i 3 → j ≡ i + 1 → Passes s i j 10
   unfolding rowPieces
   passes-divider f e = passes s i j 10 (getD s i 0 ∷ []) (lineFrom s (i + 1)) e (f .line) (omega arith) (rw (f .line) (simp (f .kind) (single _ _)))
 
-  pub passes-data : (k : ℕ) → Front s i k → (k ≡ 1 → ⊥) → (k ≡ 3 → ⊥) → j ≡ i + length (dataRun kindOf false (lineFrom s i)) → Passes s i j
+  pub passes-data : (k : ℕ) → Front s i k → (k ≡ 1 → ⊥) → (k ≡ 3 → ⊥) → j ≡ i + length (dataRun kindOf false (lineFrom s i)) → Passes s i j 3
   passes-data k f d g e =
       let u = lineFrom s i in
       let l : 0 < length (dataRun kindOf false u) = rw (f .line) (data-some kindOf _ _ (λ z. d (sym (f .kind) ∙ z)) (λ z. g (sym (f .kind) ∙ z))) in

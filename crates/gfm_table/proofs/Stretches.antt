@@ -15,12 +15,12 @@ use Rattle.gfm_table.specs.declared.delimiter.Values.the-variants.{Count
 use Rattle.tokenizer.specs.Bytes.{kindOf, isEnd}
 use Rattle.tokenizer.specs.Points.{past}
 use Rattle.tokenizer.specs.Lines.{isEmpty, indent, unindented}
-use Rattle.gfm_table.specs.Heads.{untailed, isValue, onStretch, stretches, trimmed, unled, untrailed, allValues, values, marked, permitted, isDelimiterRow}
+use Rattle.gfm_table.specs.Heads.{untailed, hyphens, isValue, onStretch, stretches, trimmed, unled, untrailed, allValues, values, marked, permitted, isDelimiterRow}
 use Rattle.tokenizer.specs.Lines.{lineBody}
 use Rattle.tokenizer.specs.Moves.{aheadOf, restOf, overAt, Inside}
 use Rattle.gfm_table.specs.Machine.{pipeFirst}
 use Rattle.gfm_table.specs.Delimiters.{stretch, written, cellAt, countIf, restAt, valuesAt, delimiterAt}
-use Rattle.tokenizer.proofs.Ahead.{Front, ends, runEnd, end-over, rest-end, inside-end, end-end}
+use Rattle.tokenizer.proofs.Ahead.{Front, goes, ends, runEnd, end-over, rest-end, inside-end, end-end}
 use Rattle.gfm_table.proofs.Stops.{led-ahead}
 use Rattle.tokenizer.proofs.Runs.{space-split}
 use Rattle.gfm_table.proofs.Delimiters.{written-on, written-none}
@@ -306,3 +306,33 @@ module _ (on : Bool) (p : Point) (u : List ℕ) where
 
       pub row-none : n ≤ 0 → NoValues ≡ delimiterAt on p u
       row-none z = let v = row-values in rw (a, b, le-ltb 0 (length (values kindOf u)) (omega (arith, v .0)))
+
+-- ## The first byte
+
+hyphens-other : (b : ℕ) (w : List ℕ) → eqb (kindOf b) 5 ≡ false → hyphens kindOf (b ∷ w) ≡ false
+unfolding hyphens
+hyphens-other b [] e = e
+hyphens-other b (c ∷ w) e = rw e
+
+-- the first solid byte is neither a divider nor a hyphen nor a colon
+first-bad : (p : Point) (u : List ℕ) (b : ℕ) (w : List ℕ) → unindented kindOf u ≡ b ∷ w → (kindOf b ≡ 3 → ⊥) → (kindOf b ≡ 5 → ⊥) → (kindOf b ≡ 6 → ⊥) → NoValues ≡ valuesAt p u
+first-bad p u b w e x y z =
+    let h = written-on kindOf u b w e x in
+    let j : isValue kindOf (written u) ≡ false = ap (isValue kindOf) h ∙ rw (ne-eqb (kindOf b) 6 z) (hyphens-other b (untailed kindOf (stretch kindOf w)) (ne-eqb (kindOf b) 5 y)) in
+    rw (values-plain u (ap pipeFirst e ∙ ne-eqb (kindOf b) 3 x), cells-split u, all-bad (written u) (trimmed kindOf (others (beyond u))) (ap isEmpty h) j)
+
+pub row-other : (s : List ℕ) (on : Bool) (p : Point) (k : ℕ) → k ≡ aheadOf kindOf (drop (p .index) s) → (k ≡ 1 → ⊥) → (k ≡ 3 → ⊥) → (k ≡ 5 → ⊥) → (k ≡ 6 → ⊥) → NoValues ≡ delimiterAt on p (restOf s p)
+unfolding unindented
+row-other s on p k e x y z t = go (eqb k 2) refl
+  where
+    bad : Front s (p .index) k → (a b : Bool) → permitted kindOf on (restOf s p) ≡ a → marked kindOf (restOf s p) ≡ b → NoValues ≡ delimiterAt on p (restOf s p)
+    bad f false b c d = row-unpermitted on p (restOf s p) c
+    bad f true false c d = row-unmarked on p (restOf s p) d
+    bad f true true c d =
+        let i = f .kind in
+        let u : unindented kindOf (restOf s p) ≡ getD s (p .index) 0 ∷ lineBody (drop (p .index + 1) s) = ap (unindented kindOf) (f .line) ∙ rw (ne-eqb (kindOf (getD s (p .index) 0)) 1 (λ q. x (sym i ∙ q))) in
+        row-bad on p (restOf s p) c d (first-bad p (restOf s p) (getD s (p .index) 0) (lineBody (drop (p .index + 1) s)) u (λ q. y (sym i ∙ q)) (λ q. z (sym i ∙ q)) (λ q. t (sym i ∙ q)))
+
+    go : (r : Bool) → eqb k 2 ≡ r → NoValues ≡ delimiterAt on p (restOf s p)
+    go true i = row-unmarked on p (restOf s p) (sym (unmarked (drop (p .index) s) (sym e ∙ eqb-true k 2 i)))
+    go false i = bad (goes s (p .index) k e (eqb-false k 2 i)) (permitted kindOf on (restOf s p)) (marked kindOf (restOf s p)) refl refl

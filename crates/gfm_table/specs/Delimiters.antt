@@ -3,15 +3,10 @@ use Prim.Native.Nat.{ℕ, _+_}
 use mathlib.Core.List.{List, [], _∷_}
 use mathlib.Core.Bool.{Bool, true, false, cond}
 use lib.Dec.{eqb}
-use mathlib.Core.Path.{_≡_}
-use lib.ListN.{length, drop}
-use Rattle.gfm_table.specs.declared.states.Scan.{Scan}
-use Rattle.gfm_table.specs.declared.states.Step.{Step}
-use Rattle.gfm_table.specs.declared.states.Step.the-variants.{Paused, Ended}
+use lib.ListN.{length}
 use Rattle.tokenizer.specs.Events
 use Rattle.gfm_table.specs.Rows.{Piece, delimiterName, delimiterPieces}
 use Rattle.tokenizer.specs.Moves.{restOf}
-use Rattle.gfm_table.specs.Machine.{passedTo, stateOf, Counted}
 use Rattle.tokenizer.specs.declared.event.Point.{Point}
 use Rattle.gfm_table.specs.declared.delimiter.Cell.{Cell}
 use Rattle.gfm_table.specs.declared.delimiter.Cell.the-variants.{Empty, Value, Bad}
@@ -89,14 +84,3 @@ module _ (kind : ℕ → ℕ) where
 -- the pieces of a delimiter line from a point on
 abbrev pub delimiterPiecesAt : List ℕ → Point → List Piece
 delimiterPiecesAt s p = delimiterPieces kindOf (restOf s p)
-
--- a state after the first of some pieces
-abbrev pub afterOne : Scan → List Piece → Step
-afterOne q [] = Ended q
-afterOne q (x ∷ xs) = Paused (passedTo (x .name) (past (q .at) (x .text)) q)
-
--- a step over one piece: the state behind it, or the end; one piece less is left; no counter has passed the bytes
-pub record NextPiece (s : List ℕ) (q : Scan) (r : Step) : Type 0 where
-  pub is : r ≡ afterOne q (delimiterPiecesAt s (q .at))
-  pub left : delimiterPiecesAt s (stateOf r .at) ≡ drop 1 (delimiterPiecesAt s (q .at))
-  pub good : Counted s (stateOf r)

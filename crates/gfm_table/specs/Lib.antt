@@ -6,3 +6,4 @@ pub mod Delimiters
 pub mod Answers
 pub mod Stream
 pub mod Calls
+pub mod Places

@@ -10,6 +10,7 @@ use Rattle.tokenizer.specs.Lines.{lineBody}
 use Rattle.tokenizer.specs.Moves.{restOf, Inside}
 use Rattle.gfm_table.specs.declared.states.Scan.{Scan}
 use Rattle.gfm_table.specs.declared.states.Step.{Step}
+use Rattle.gfm_table.specs.declared.pieces.HeadRow.{HeadRow}
 use Rattle.gfm_table.specs.declared.states.Step.the-variants.{Paused, Ended}
 use Rattle.tokenizer.specs.Bytes.{kindOf}
 use Rattle.tokenizer.specs.Events
@@ -132,3 +133,9 @@ pub record RowRead (u : List ℕ) (p : Point) (r : Scan) : Type 0 where
   pub cells : r .size ≡ headCells kindOf u
   pub lone : leb (r .«size_b») 1 ≡ loneDivider (solid (rowPieces kindOf false u))
   pub end : r .at ≡ past p u
+
+-- a head line with the body u is counted
+pub record HeadRead (u : List ℕ) (r : HeadRow) : Type 0 where
+  pub pieces : r .pieces ≡ length (rowPieces kindOf false u)
+  pub cells : r .size ≡ headCells kindOf u
+  pub lone : leb (r .«size_b») 1 ≡ loneDivider (solid (rowPieces kindOf false u))

@@ -1,8 +1,8 @@
 // What `head` and `row` answer, before a slot is written.
-use crate::delimiter::delimiter_count;
 use crate::heads::Answer;
 use crate::heads::Opened;
 use crate::heads::head_at;
+use crate::pieces::marks_from;
 use crate::states::Scan;
 use crate::states::row;
 use crate::stream::Cursor;
@@ -96,7 +96,7 @@ pub fn head_events(s: &[u8], o: Opened) -> usize
     ensures { λ r. ⌜ r ≡ 2 * (o .pieces + length (delimiterPieces kindOf (restOf (now (s .entry)) (o .delimiter)))) + 8 ⌝ }
 {
     let d = o.delimiter;
-    2 * (o.pieces + delimiter_count(s, d)) as usize + 8
+    2 * (o.pieces + marks_from(s, d.index as usize)) as usize + 8
 }
 
 // A head that was found: whether the slots suffice.

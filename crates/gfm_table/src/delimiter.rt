@@ -1,7 +1,4 @@
 // The states of a delimiter row.
-use crate::states::Scan;
-use crate::states::Step;
-use tokenizer::event::Name;
 use tokenizer::event::Point;
 use tokenizer::moves::ahead;
 use tokenizer::moves::kind_at;
@@ -11,15 +8,12 @@ use tokenizer::moves::space_end;
 use tokenizer::partial_space_or_tab::space_ends;
 ghost use mathlib.Core.Path.{_≡_};
 ghost use Prim.Native.Nat.{_≤_};
-ghost use lib.ListN.{length, drop};
 ghost use Rattle.tokenizer.specs.Bytes.{kindOf};
 ghost use Rattle.tokenizer.specs.Points.{past};
-ghost use Rattle.tokenizer.specs.Lines.{lineBody, isEmpty};
+ghost use Rattle.tokenizer.specs.Lines.{isEmpty};
 ghost use Rattle.tokenizer.specs.Moves.{restOf, Inside};
-ghost use Rattle.gfm_table.specs.Rows.{delimiterPieces};
 ghost use Rattle.gfm_table.specs.Heads.{marked, permitted};
-ghost use Rattle.gfm_table.specs.Delimiters.{stretch, blankAt, closedAt, hyphensAt, cellAt, restAt, valuesAt, delimiterAt, fillerRun, NextPiece};
-ghost use Rattle.gfm_table.specs.Machine.{Counted};
+ghost use Rattle.gfm_table.specs.Delimiters.{stretch, blankAt, closedAt, hyphensAt, cellAt, restAt, valuesAt, delimiterAt, fillerRun};
 
 // What stands between two dividers: nothing but whitespace, a value, or something else. The point is the end of the stretch.
 pub enum Cell {
@@ -174,7 +168,7 @@ pub fn permits(s: &[u8], p: Point, on: bool) -> bool
 }
 
 // The delimiter row: the number of its values and its end, or refused.
-pub fn head_delimiter_start(s: &[u8], p: Point, on: bool) -> Values
+pub fn head_delimiter_row(s: &[u8], p: Point, on: bool) -> Values
     requires { ⌜ Inside (now s) p × (p .column ≡ 1) ⌝ }
     ensures { λ r. ⌜ r ≡ delimiterAt on p (restOf (now (s .entry)) p) ⌝ }
 {
@@ -196,6 +190,17 @@ pub fn head_delimiter_start(s: &[u8], p: Point, on: bool) -> Values
     Values::Bad
 }
 
+// The same. A line whose first byte is no whitespace, divider, hyphen or colon is refused at once: most are such.
+pub fn head_delimiter_start(s: &[u8], p: Point, on: bool) -> Values
+    requires { ⌜ Inside (now s) p × (p .column ≡ 1) ⌝ }
+    ensures { λ r. ⌜ r ≡ delimiterAt on p (restOf (now (s .entry)) p) ⌝ }
+{
+    match ahead(s, p) {
+        1 | 3 | 5 | 6 => head_delimiter_row(s, p, on),
+        _ => Values::Bad,
+    }
+}
+
 // The end of a run of bytes that a delimiter row names fillers.
 pub fn filler_end(s: &[u8], p: Point) -> Point
     requires { ⌜ Inside (now s) p ⌝ }
@@ -209,59 +214,6 @@ pub fn filler_end(s: &[u8], p: Point) -> Point
             }
             _ => {
                 q = over(s, q);
-            }
-        }
-    }
-}
-
-// The next piece of a delimiter row.
-pub fn delimiter_piece(s: &[u8], st: Scan) -> Step
-    requires { ⌜ Counted (now s) st ⌝ }
-    ensures { λ r. ⌜ NextPiece (now (s .entry)) st r ⌝ }
-{
-    let at = st.at;
-    match ahead(s, at) {
-        1 => {
-            let to = space_end(s, at);
-            Step::Paused(st.passed(Name::SpaceOrTab, to))
-        }
-        2 => Step::Ended(st),
-        3 => {
-            let to = over(s, at);
-            Step::Paused(st.passed(Name::GfmTableCellDivider, to))
-        }
-        6 => {
-            let to = over(s, at);
-            Step::Paused(st.passed(Name::GfmTableDelimiterMarker, to))
-        }
-        _ => {
-            let to = filler_end(s, at);
-            Step::Paused(st.passed(Name::GfmTableDelimiterFiller, to))
-        }
-    }
-}
-
-// How many pieces a delimiter row has.
-pub fn delimiter_count(s: &[u8], p: Point) -> u32
-    requires { ⌜ Inside (now s) p ⌝ }
-    ensures { λ r. ⌜ r ≡ length (delimiterPieces kindOf (restOf (now (s .entry)) p)) ⌝ }
-{
-    let mut q = Scan {
-        at: p,
-        from: p,
-        name: 0,
-        count: 0,
-        size: 0,
-        size_b: 0,
-        seen: false,
-    };
-    loop {
-        match delimiter_piece(s, q) {
-            Step::Paused(t) => {
-                q = t;
-            }
-            Step::Ended(t) => {
-                return t.count;
             }
         }
     }

@@ -15,6 +15,7 @@ pub mod calls;
 pub mod delimiter;
 pub mod heads;
 pub mod pieces;
+pub mod rows;
 pub mod states;
 pub mod stream;
 

@@ -45,7 +45,7 @@ module _ (s : List ℕ) (p : Point) where
   rows-last e on = rw (past-last s p e)
 
   module _ (z : lineAt s p .end ≡ 0 → ⊥) where
-    next-lines : linesPast s p ≡ here s (after s p) ∷ linesPast s (after s p)
+    pub next-lines : linesPast s p ≡ here s (after s p) ∷ linesPast s (after s p)
     next-lines = past-more s p z ∙ lines-from s (after s p)
 
     module _ (b : blank kindOf (restOf s (after s p)) ≡ true) where

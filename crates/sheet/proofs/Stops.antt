@@ -29,13 +29,13 @@ module _ (s : List ℕ) (p : Point) where
   abbrev stop : Point
   stop = past p (restOf s p)
 
-  stop-stop : past stop (restOf s stop) ≡ stop
+  pub stop-stop : past stop (restOf s stop) ≡ stop
   stop-stop = ap (past stop) (stop-rest s p) ∙ past-none stop refl
 
   pub stop-end : lineAt s stop .end ≡ lineAt s p .end
   stop-end = sym (end-past s stop) ∙ ap (λ (q : Point). endAt (drop (q .index) s)) stop-stop ∙ end-past s p
 
-  stop-after : after s stop ≡ after s p
+  pub stop-after : after s stop ≡ after s p
   stop-after = ap (λ (q : Point). nextLine q (lineAt s stop .end)) stop-stop ∙ ap (nextLine stop) stop-end
 
   -- the lines after a line are those after its end

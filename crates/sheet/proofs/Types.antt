@@ -8,14 +8,10 @@ use denote.Struct.Laws as LL
 use denote.Builtin.{u8, u32, usize, bool}
 use Rattle.tokenizer.proofs.Data.{Data, data-of, enum-data-of, uint-data, bool-data, vals}
 use Rattle.tokenizer.proofs.Types.{Ev, ev}
-use Rattle.sheet.specs.declared.stream.Walked.{Walked}
 use Rattle.sheet.specs.declared.count.Counts.{Counts}
 use Rattle.sheet.specs.declared.calls.Plan.{Plan}
 use Rattle.sheet.specs.declared.calls.Verdict.{Verdict}
-use Rattle.sheet.proofs.stream.Place as Place
-use Rattle.sheet.proofs.stream.Place.Laws as Place′
-use Rattle.sheet.proofs.stream.Walked as Walked
-use Rattle.sheet.proofs.stream.Walked.Laws as Walked′
+use Rattle.sheet.specs.declared.tables.Written.{Written}
 use Rattle.sheet.proofs.calls.Sheet as Sheet
 use Rattle.sheet.proofs.calls.Sheet.Laws as Sheet′
 use Rattle.sheet.proofs.count.Counts as Counts
@@ -24,24 +20,8 @@ use Rattle.sheet.proofs.calls.Plan as Plan
 use Rattle.sheet.proofs.calls.Plan.Laws as Plan′
 use Rattle.sheet.proofs.calls.Verdict as Verdict
 use Rattle.sheet.proofs.calls.Verdict.Laws as Verdict′
-
-abbrev pub Wk : RattleType
-Wk = Place.the-row
-
-abbrev pub wk-ty : Ty
-wk-ty = Place′.mir
-
-abbrev pub wk : Data Wk
-wk = data-of Place.the-type Place′.the-laws Place′.the-copy Place′.the-plain
-
-abbrev pub Wd : RattleType
-Wd = Walked.the-row
-
-abbrev pub wd-ty : Ty
-wd-ty = Walked′.mir
-
-abbrev pub wd : Data Wd
-wd = data-of Walked.the-type Walked′.the-laws Walked′.the-copy Walked′.the-plain
+use Rattle.sheet.proofs.tables.Written as Written
+use Rattle.sheet.proofs.tables.Written.Laws as Written′
 
 abbrev pub Sh : RattleType
 Sh = Sheet.the-row
@@ -79,16 +59,14 @@ ve-ty = Verdict′.mir
 abbrev pub ve : Data Ve
 ve = data-of Verdict.the-type Verdict′.the-laws Verdict′.the-copy Verdict′.the-plain
 
--- the fields of a value of `Walked`
-pub wd-event : (z : Walked) → Is Wd z (vals wd z) → Is Ev (z .event) (vals ev (z .event))
-wd-event z is = LL.owed Walked.the-type Walked′.the-laws z (vals wd z) is .0
+abbrev pub Wn : RattleType
+Wn = Written.the-row
 
-pub wd-next : (z : Walked) → Is Wd z (vals wd z) → Is Wk (z .next) (vals wk (z .next))
-wd-next z is = LL.owed Walked.the-type Walked′.the-laws z (vals wd z) is .1 .0
+abbrev pub wn-ty : Ty
+wn-ty = Written′.mir
 
--- and a value whose fields fit
-pub wd-is : (z : Walked) → Is Ev (z .event) (vals ev (z .event)) → Is Wk (z .next) (vals wk (z .next)) → Is Wd z (vals wd z)
-wd-is z p0 p1 = LL.owes Walked.the-type Walked′.the-laws z (p0, (p1, tt))
+abbrev pub wn : Data Wn
+wn = data-of Written.the-type Written′.the-laws Written′.the-copy Written′.the-plain
 
 -- the fields of a value of `Counts`
 pub ct-tables : (z : Counts) → Is Ct z (vals ct z) → Is u32 (z .tables) (vals (uint-data w32) (z .tables))
@@ -111,12 +89,9 @@ pn-refusal z is = LL.owed Plan.the-type Plan′.the-laws z (vals pn z) is .0
 pub pn-counts : (z : Plan) → Is Pn z (vals pn z) → Is Ct (z .counts) (vals ct (z .counts))
 pn-counts z is = LL.owed Plan.the-type Plan′.the-laws z (vals pn z) is .1 .0
 
-pub pn-walk : (z : Plan) → Is Pn z (vals pn z) → Is Wk (z .walk) (vals wk (z .walk))
-pn-walk z is = LL.owed Plan.the-type Plan′.the-laws z (vals pn z) is .1 .1 .0
-
 -- and a value whose fields fit
-pub pn-is : (z : Plan) → Is u8 (z .refusal) (vals (uint-data w8) (z .refusal)) → Is Ct (z .counts) (vals ct (z .counts)) → Is Wk (z .walk) (vals wk (z .walk)) → Is Pn z (vals pn z)
-pn-is z p0 p1 p2 = LL.owes Plan.the-type Plan′.the-laws z (p0, (p1, (p2, tt)))
+pub pn-is : (z : Plan) → Is u8 (z .refusal) (vals (uint-data w8) (z .refusal)) → Is Ct (z .counts) (vals ct (z .counts)) → Is Pn z (vals pn z)
+pn-is z p0 p1 = LL.owes Plan.the-type Plan′.the-laws z (p0, (p1, tt))
 
 -- the fields of a value of `Verdict`
 pub ve-answer : (z : Verdict) → Is Ve z (vals ve z) → Is Sh (z .answer) (vals sh (z .answer))
@@ -134,3 +109,13 @@ ve-results z is = LL.owed Verdict.the-type Verdict′.the-laws z (vals ve z) is 
 -- and a value whose fields fit
 pub ve-is : (z : Verdict) → Is Sh (z .answer) (vals sh (z .answer)) → Is bool (z .go) (vals bool-data (z .go)) → Is usize (z .raw) (vals (uint-data w64) (z .raw)) → Is usize (z .results) (vals (uint-data w64) (z .results)) → Is Ve z (vals ve z)
 ve-is z p0 p1 p2 p3 = LL.owes Verdict.the-type Verdict′.the-laws z (p0, (p1, (p2, (p3, tt))))
+
+-- the fields of a value of `Written`
+pub wn-line : (z : Written) → Is Wn z (vals wn z) → Is u32 (z .line) (vals (uint-data w32) (z .line))
+wn-line z is = LL.owed Written.the-type Written′.the-laws z (vals wn z) is .0
+
+pub wn-at : (z : Written) → Is Wn z (vals wn z) → Is u32 (z .at) (vals (uint-data w32) (z .at))
+wn-at z is = LL.owed Written.the-type Written′.the-laws z (vals wn z) is .1 .0
+
+pub wn-slot : (z : Written) → Is Wn z (vals wn z) → Is usize (z .slot) (vals (uint-data w64) (z .slot))
+wn-slot z is = LL.owed Written.the-type Written′.the-laws z (vals wn z) is .1 .1 .1 .0

@@ -6,11 +6,8 @@ use lib.Dec.{eqb, leb, ltb}
 use lib.ListN.{length}
 use Rattle.tokenizer.specs.declared.event.Event.{Event}
 use Rattle.tokenizer.specs.Bytes.{kindOf}
-use Rattle.tokenizer.specs.Points.{start}
 use Rattle.tokenizer.specs.Slots.{slotsOf}
 use Rattle.gfm_table.specs.Calls.{orElse, slotRefusal}
-use Rattle.edit_map.specs.declared.resolve.Resolved.{Resolved}
-use Rattle.edit_map.specs.declared.resolve.Resolved.the-variants as resolve
 use Rattle.sheet.specs.declared.calls.Sheet.{Sheet}
 use Rattle.sheet.specs.declared.calls.Sheet.the-variants.{Refused, Accepted}
 use Rattle.sheet.specs.declared.calls.Plan.{Plan}
@@ -18,7 +15,6 @@ use Rattle.sheet.specs.declared.calls.Verdict.{Verdict}
 use Rattle.sheet.specs.declared.count.Counts.{Counts}
 use Rattle.sheet.specs.Walk.{Found, tables, rawOf, resolvedOf, alignedOf}
 use Rattle.sheet.specs.Counting.{countsOf}
-use Rattle.sheet.specs.Stream.{Seek, Done, placeOf}
 use Rattle.sheet.specs.Aligning.{alignedInto}
 
 -- ## Questions
@@ -74,34 +70,29 @@ module _ (s : List ℕ) (on : Bool) (n m k : ℕ) where
 abbrev pub noCounts : Counts
 noCounts = record { tables = 0; raw = 0; aligned = 0 }
 
--- refused before a slot is written: nothing comes
+-- refused before a slot is written: no table is
 abbrev pub noPlan : ℕ → Plan
-noPlan q = record { refusal = q; counts = noCounts; walk = placeOf Done }
+noPlan q = record { refusal = q; counts = noCounts }
 
--- questions 1 and 9, the counts, and where the raw events come from
+-- questions 1 and 9, and the counts
 unfoldable pub planOf : List ℕ → Bool → ℕ → Plan
 planOf s on n =
     cond (ltb 65536 (length s)) (noPlan 1)
     (cond (ltb n (length (rawOf (tables kindOf on s)))) (noPlan 9)
-    (record { refusal = 0; counts = countsOf (tables kindOf on s); walk = placeOf (Seek start) }))
+    (record { refusal = 0; counts = countsOf (tables kindOf on s) }))
 
 -- refused: no slot stays as it is
 abbrev pub noVerdict : ℕ → Verdict
 noVerdict q = record { answer = Refused q; go = false; raw = 0; results = 0 }
 
--- question 14, of a plan and r result events, with n, m and k slots
-abbrev pub acceptOf : Counts → ℕ → ℕ → ℕ → ℕ → Verdict
-acceptOf c r n m k =
-    cond (leb (c .aligned) k) (record { answer = Accepted (c .tables) (c .raw) r (c .aligned); go = true; raw = n; results = m }) (noVerdict 14)
+-- question 14, of a plan and r result events, with k slots
+abbrev pub acceptOf : Counts → ℕ → ℕ → Verdict
+acceptOf c r k =
+    cond (leb (c .aligned) k) (record { answer = Accepted (c .tables) (c .raw) r (c .aligned); go = true; raw = c .raw; results = r }) (noVerdict 14)
 
--- question 12 as resolving answered it, then 14
-abbrev pub resolvedAs : Counts → Resolved → ℕ → ℕ → ℕ → Verdict
-resolvedAs c (resolve.Refused q) n m k = noVerdict q
-resolvedAs c (resolve.Accepted r) n m k = acceptOf c r n m k
-
--- the answer, whether the alignments stay, and how many slots stay as they are
-unfoldable pub judgeOf : Plan → Resolved → ℕ → ℕ → ℕ → Verdict
-judgeOf p r n m k = cond (eqb (p .refusal) 0) (resolvedAs (p .counts) r n m k) (noVerdict (p .refusal))
+-- the answer, whether the alignments stay, and how many slots stay as they are: questions 12 and 14, with m result slots and k alignment slots
+unfoldable pub judgeOf : Plan → ℕ → ℕ → ℕ → Verdict
+judgeOf p r m k = cond (eqb (p .refusal) 0) (cond (leb r m) (acceptOf (p .counts) r k) (noVerdict 12)) (noVerdict (p .refusal))
 
 -- the lesser of two numbers
 abbrev pub leastOf : ℕ → ℕ → ℕ

@@ -1,7 +1,10 @@
 pub mod Walk
 pub mod From
-pub mod Stream
+pub mod Spans
+pub mod Placing
+pub mod Results
 pub mod Counting
 pub mod Aligning
 pub mod Calls
+pub mod Writing
 pub mod Demands

@@ -2,21 +2,13 @@
 use crate::align::clear;
 use crate::count::Counts;
 use crate::count::count_into;
-use crate::stream::Place;
-use crate::stream::begin;
-use crate::stream::done;
-use edit_map::resolve::Resolved;
-use edit_map::resolve::resolve;
-use tokenizer::event::Event;
 ghost use mathlib.Core.Path.{_≡_};
-ghost use mathlib.Core.List.{_++_};
 ghost use lib.Dec.{leb};
-ghost use lib.ListN.{length, take};
+ghost use lib.ListN.{length};
 ghost use Rattle.tokenizer.specs.Bytes.{kindOf};
-ghost use Rattle.edit_map.specs.Answers.{resolveAnswer, resolveSlots};
 ghost use Rattle.sheet.specs.Walk.{tables, alignedOf};
 ghost use Rattle.sheet.specs.Aligning.{alignedInto, keptIf};
-ghost use Rattle.sheet.specs.Calls.{noPlan, planOf, noVerdict, acceptOf, resolvedAs, judgeOf, leastOf};
+ghost use Rattle.sheet.specs.Calls.{noPlan, planOf, noVerdict, acceptOf, judgeOf, leastOf};
 
 // A sheet is refused by a number, or accepted with the numbers of its tables, raw events, result events and alignments.
 pub enum Sheet {
@@ -29,11 +21,10 @@ pub enum Sheet {
     },
 }
 
-// The first question answered no, or 0, the counts, and where the raw events come from.
+// The first question answered no, or 0, and the counts.
 pub struct Plan {
     pub refusal: u8,
     pub counts: Counts,
-    pub walk: Place,
 }
 
 // The answer, whether the alignments stay, and how many raw and result slots stay as they are.
@@ -51,7 +42,6 @@ pub fn no_plan(refusal: u8) -> Plan
     Plan {
         refusal,
         counts: Counts::NONE,
-        walk: done(),
     }
 }
 
@@ -68,19 +58,15 @@ pub fn sheet_plan(s: &[u8], on: bool, slots: usize, alignments: &mut [u8]) -> Pl
     if slots < counts.raw as usize {
         return no_plan(9);
     }
-    Plan {
-        refusal: 0,
-        counts,
-        walk: begin(),
-    }
+    Plan { refusal: 0, counts }
 }
 
-// How many raw events a plan has.
+// How many tables are written.
 pub fn planned(p: Plan) -> usize
-    ensures { λ r. ⌜ r ≡ p .counts .raw ⌝ }
+    ensures { λ r. ⌜ r ≡ p .counts .tables ⌝ }
 {
     let c = p.counts;
-    c.raw as usize
+    c.tables as usize
 }
 
 // Refused: no slot stays.
@@ -96,14 +82,8 @@ pub fn no_verdict(refusal: u8) -> Verdict
 }
 
 // Question 14.
-pub fn accept(
-    c: Counts,
-    results: usize,
-    raw_slots: usize,
-    result_slots: usize,
-    align_slots: usize,
-) -> Verdict
-    ensures { λ r. ⌜ r ≡ acceptOf c results «raw_slots» «result_slots» «align_slots» ⌝ }
+pub fn accept(c: Counts, results: usize, align_slots: usize) -> Verdict
+    ensures { λ r. ⌜ r ≡ acceptOf c results «align_slots» ⌝ }
 {
     if c.aligned as usize <= align_slots {
         return Verdict {
@@ -114,33 +94,25 @@ pub fn accept(
                 alignments: c.aligned as usize,
             },
             go: true,
-            raw: raw_slots,
-            results: result_slots,
+            raw: c.raw as usize,
+            results,
         };
     }
     no_verdict(14)
 }
 
-// Question 12 as resolving answered it, then 14.
-pub fn judge(
-    p: Plan,
-    r: Resolved,
-    raw_slots: usize,
-    result_slots: usize,
-    align_slots: usize,
-) -> Verdict
-    ensures { λ v. ⌜ v ≡ judgeOf p r «raw_slots» «result_slots» «align_slots» ⌝ }
+// Questions 12 and 14, where so many result events were written.
+pub fn judge(p: Plan, results: usize, result_slots: usize, align_slots: usize) -> Verdict
+    ensures { λ v. ⌜ v ≡ judgeOf p results «result_slots» «align_slots» ⌝ }
 {
     if p.refusal != 0 {
         return no_verdict(p.refusal);
     }
-    match r {
-        Resolved::Refused(q) => no_verdict(q),
-        Resolved::Accepted(n) => {
-            let c = p.counts;
-            accept(c, n, raw_slots, result_slots, align_slots)
-        }
+    if results <= result_slots {
+        let c = p.counts;
+        return accept(c, results, align_slots);
     }
+    no_verdict(12)
 }
 
 // The slots stay as they are, or become zero.
@@ -161,22 +133,4 @@ pub fn least(a: usize, b: usize) -> usize
         return a;
     }
     b
-}
-
-// A list that is lent to be changed is only read.
-pub fn resolve_shared(list: &mut [Event], results: &mut [Event]) -> Resolved
-    ensures { λ r. ⌜ (r ≡ resolveAnswer (now (list .entry)) (length (now (results .entry))))
-        × ((now (list .exit) ≡ now (list .entry)) × (now (results .exit) ≡ resolveSlots (now (list .entry)) (length (now (results .entry))))) ⌝ }
-{
-    resolve(list, results)
-}
-
-// The first n events of a list are resolved.
-pub fn resolve_first(list: &mut [Event], n: usize, results: &mut [Event]) -> Resolved
-    ensures { λ r. ⌜ (r ≡ resolveAnswer (take (leastOf n (length (now (list .entry)))) (now (list .entry))) (length (now (results .entry))))
-        × ((now (list .exit) ≡ now (list .entry))
-        × (now (results .exit) ≡ resolveSlots (take (leastOf n (length (now (list .entry)))) (now (list .entry))) (length (now (results .entry))))) ⌝ }
-{
-    let k = least(n, list.len());
-    resolve_shared(&mut list[..k], results)
 }

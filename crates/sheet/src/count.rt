@@ -4,8 +4,8 @@ use crate::align::clear;
 use crate::seek::Next;
 use crate::seek::line_behind;
 use crate::seek::next_head;
-use gfm_table::delimiter::delimiter_count;
 use gfm_table::heads::Opened;
+use gfm_table::pieces::marks_from;
 use gfm_table::pieces::pieces_from;
 use tokenizer::event::Point;
 use tokenizer::lines::Further;
@@ -81,7 +81,7 @@ pub fn table_after(s: &[u8], o: Opened) -> Read
 {
     let d = o.delimiter;
     let e = o.end;
-    let n = delimiter_count(s, d);
+    let n = marks_from(s, d.index as usize);
     let b = body_after(s, e);
     let next = b.next;
     Read {

@@ -3,11 +3,10 @@ use calls::Sheet;
 use calls::clear_unless;
 use calls::judge;
 use calls::planned;
-use calls::resolve_first;
 use calls::sheet_plan;
-use stream::fill;
 use tokenizer::event::Event;
 use tokenizer::slots::clear_from;
+use write::write_tables;
 ghost use mathlib.Core.Path.{_≡_};
 ghost use lib.ListN.{length};
 ghost use Rattle.sheet.specs.Calls.{sheetOf, sheetRaw, sheetResults, sheetAligned};
@@ -15,8 +14,11 @@ ghost use Rattle.sheet.specs.Calls.{sheetOf, sheetRaw, sheetResults, she
 pub mod align;
 pub mod calls;
 pub mod count;
+pub mod results;
 pub mod seek;
-pub mod stream;
+pub mod spans;
+pub mod tables;
+pub mod write;
 
 // A whole sheet: its tables' raw events, their result events, and their alignments.
 pub fn sheet(
@@ -32,11 +34,9 @@ pub fn sheet(
         × (now (alignments .exit) ≡ sheetAligned (now (sheet .entry)) «code_indented» (length (now (raw .entry))) (length (now (results .entry))) (length (now (alignments .entry)))))) ⌝ }
 {
     let plan = sheet_plan(sheet, code_indented, raw.len(), alignments);
-    let walk = plan.walk;
-    fill(sheet, code_indented, walk, raw);
     let n = planned(plan);
-    let r = resolve_first(raw, n, results);
-    let v = judge(plan, r, raw.len(), results.len(), alignments.len());
+    let k = write_tables(sheet, code_indented, n, raw, results);
+    let v = judge(plan, k, results.len(), alignments.len());
     clear_unless(alignments, v.go);
     clear_from(raw, v.raw);
     clear_from(results, v.results);

@@ -1,9 +1,10 @@
 // The next head of a sheet, and the line behind a line.
 use gfm_table::delimiter::Values;
 use gfm_table::delimiter::head_delimiter_start;
+use gfm_table::delimiter::permits;
 use gfm_table::heads::Answer;
 use gfm_table::heads::Opened;
-use gfm_table::heads::head_at;
+use gfm_table::pieces::head_row;
 use tokenizer::event::Point;
 use tokenizer::lines::Further;
 use tokenizer::lines::line_after;
@@ -11,7 +12,7 @@ use tokenizer::lines::line_end;
 ghost use mathlib.Core.Path.{_≡_};
 ghost use Prim.Native.Nat.{_+_};
 ghost use lib.ListN.{length};
-ghost use Rattle.tokenizer.specs.Moves.{restOf, after, furtherOf, Inside};
+ghost use Rattle.tokenizer.specs.Moves.{restOf, lineAt, after, furtherOf, Inside};
 ghost use Rattle.sheet.specs.From.{AtLine, Tried, Finds};
 
 // A head: where its line starts, and what it opens.
@@ -22,12 +23,29 @@ pub enum Next {
 
 // A head at a line. It is tried only where the next line, which starts at d, is a delimiter row: few lines are.
 pub fn head_above(s: &[u8], p: Point, d: Point, on: bool) -> Answer
-    requires { ⌜ AtLine (now s) p × AtLine (now s) d × (d ≡ after (now s) p) ⌝ }
+    requires { ⌜ AtLine (now s) p × AtLine (now s) d × (d ≡ after (now s) p) × (lineAt (now s) p .end ≡ 0 → ⊥) ⌝ }
     ensures { λ r. ⌜ Tried (now (s .entry)) on p r ⌝ }
 {
     match head_delimiter_start(s, d, on) {
         Values::Bad => Answer::Refused(6),
-        Values::Count(n, e) => head_at(s, p, on, false),
+        Values::Count(n, e) => {
+            if permits(s, p, on) {
+                let r = head_row(s, p.index as usize);
+                if r.size_b <= 1 {
+                    return Answer::Refused(4);
+                }
+                if n == r.size {
+                    return Answer::Accepted(Opened {
+                        cells: n,
+                        pieces: r.pieces,
+                        delimiter: d,
+                        end: e,
+                    });
+                }
+                return Answer::Refused(7);
+            }
+            Answer::Refused(3)
+        }
     }
 }
 

@@ -29,5 +29,4 @@ pub mod Turning
 pub mod Types
 pub mod Blanks
 pub mod Writing
-pub mod Puts
 pub mod Prelude

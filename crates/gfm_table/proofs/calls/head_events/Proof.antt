@@ -9,14 +9,17 @@ use borrow.Author.Needs.{needs}
 use Rattle.gfm_table.proofs.calls.head_events.Statement.{statement}
 use Rattle.gfm_table.proofs.calls.head_events.Tie as tie
 
-delimiter-count-requires : tie.Need-delimiter-count-requires
-delimiter-count-requires c κs = search needs
+cast-marks-from : tie.Need-cast-marks-from
+cast-marks-from c = search needs
+
+marks-from-requires : tie.Need-marks-from-requires
+marks-from-requires c κs = search needs
 
 add-result : tie.Need-add-result
 add-result c =
-    let b = c .before .before .before .before in
+    let b = c .before .before .before .before .before in
     let d = b .args .o .delimiter in
-    omega (arith, c .before .delimiter-count .ensures, b .pre .1, delimiter-few kindOf (restOf (now (b .args .s)) d), rest-few (now (b .args .s)) d (b .pre .0))
+    omega (arith, c .before .marks-from .ensures, b .pre .1, delimiter-few kindOf (restOf (now (b .args .s)) d), rest-few (now (b .args .s)) d (b .pre .0))
 
 cast-result : tie.Need-cast-result
 cast-result c = search needs
@@ -33,4 +36,4 @@ returns c = search needs
 pub head-events-spec : {M : Type 1} → statement M
 head-events-spec =
     tie.close
-    (tie.spec delimiter-count-requires add-result cast-result mul-result add-result-2 returns)
+    (tie.spec cast-marks-from marks-from-requires add-result cast-result mul-result add-result-2 returns)

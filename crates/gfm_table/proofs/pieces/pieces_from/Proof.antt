@@ -37,7 +37,7 @@ add-spaces-end c = let f = spaced c in omega (arith, f .below)
 spaces-end-requires : tie.Need-spaces-end-requires Inv-loop μ-loop
 spaces-end-requires c κs = search needs
 
-space : (c : tie.After-spaces-end Inv-loop μ-loop) → Passes (now (c .before .before .before .before .before .args .s)) (c .before .before .before .loop .i) (c .spaces-end .result)
+space : (c : tie.After-spaces-end Inv-loop μ-loop) → Passes (now (c .before .before .before .before .before .args .s)) (c .before .before .before .loop .i) (c .spaces-end .result) 1
 space c = passes-space _ _ _ (spaced (c .before)) (c .spaces-end .ensures)
 
 add-n : tie.Need-add-n Inv-loop μ-loop
@@ -69,7 +69,7 @@ divided c = goes _ _ 3 (sym (c .match .keys3) ∙ c .before .kind-at .ensures) (
 add-i : tie.Need-add-i Inv-loop μ-loop
 add-i c = let f = divided c in omega (arith, f .below)
 
-divider : (c : tie.At-match-keys3 Inv-loop μ-loop) → Passes (now (c .before .before .before .before .args .s)) (c .before .before .loop .i) (c .before .before .loop .i + 1)
+divider : (c : tie.At-match-keys3 Inv-loop μ-loop) → Passes (now (c .before .before .before .before .args .s)) (c .before .before .loop .i) (c .before .before .loop .i + 1) 10
 divider c = passes-divider _ _ _ (divided c) refl
 
 add-n-2 : tie.Need-add-n-2 Inv-loop μ-loop
@@ -93,7 +93,7 @@ texted c = goes _ _ _ (c .before .kind-at .ensures) (c .match .rest .0 .1)
 text-end-requires : tie.Need-text-end-requires Inv-loop μ-loop
 text-end-requires c κs = search needs
 
-text : (c : tie.After-text-end Inv-loop μ-loop) → Passes (now (c .before .before .before .before .before .args .s)) (c .before .before .before .loop .i) (c .text-end .result)
+text : (c : tie.After-text-end Inv-loop μ-loop) → Passes (now (c .before .before .before .before .before .args .s)) (c .before .before .before .loop .i) (c .text-end .result) 3
 text c = passes-data _ _ _ _ (texted (c .before)) (c .before .match .rest .0 .0 .1) (c .before .match .rest .1) (c .text-end .ensures)
 
 add-n-3 : tie.Need-add-n-3 Inv-loop μ-loop

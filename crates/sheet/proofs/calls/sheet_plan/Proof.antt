@@ -42,19 +42,16 @@ returns-2 c =
     let e = n .count-into .ensures in
     (rw (le-ltb _ _ h, lt-ltb _ _ (rw (e .0) at (c .before .if2 .taken))) (c .no-plan2 .ensures), rw (le-leb _ _ h) (e .1))
 
-begin-requires : tie.Need-begin-requires
-begin-requires c κs = search needs
-
 same-length-3 : tie.Need-same-length-3
 same-length-3 c = search needs
 
 returns-3 : tie.Need-returns-3
 unfolding planOf
 returns-3 c =
-    let n = c .before .before .before .before .before in
+    let n = c .before .before .before .before in
     let h = n .before .before .if1 .left in
     let e = n .count-into .ensures in
-    (rw (le-ltb _ _ h, le-ltb _ _ (rw (e .0) at (c .before .if2 .left)), e .0, c .begin .ensures), rw (le-leb _ _ h) (e .1))
+    (rw (le-ltb _ _ h, le-ltb _ _ (rw (e .0) at (c .if2 .left)), e .0), rw (le-leb _ _ h) (e .1))
 
 pub sheet-plan-spec : {M : Type 1} → statement M
 sheet-plan-spec =
@@ -69,6 +66,5 @@ sheet-plan-spec =
     no-plan-requires-2
     same-length-2
     returns-2
-    begin-requires
     same-length-3
     returns-3)

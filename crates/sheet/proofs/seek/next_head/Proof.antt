@@ -47,7 +47,7 @@ head-above-requires : tie.Need-head-above-requires Inv-loop μ-loop
 head-above-requires c κs =
     let m = next c in
     let l = c .before .before .before .before .loop in
-    (l .inv .0, rw (m .0) (after-line _ (l .q) (m .1) (l .inv .0 .inside)), m .0)
+    (l .inv .0, rw (m .0) (after-line _ (l .q) (m .1) (l .inv .0 .inside)), m .0, m .1)
 
 enum-known-o : tie.Need-enum-known-o Inv-loop μ-loop
 enum-known-o c = search needs

@@ -1,0 +1,58 @@
+// The cells of a row with what stands in them, written to slots.
+use crate::cell_steps::Step;
+use crate::cell_steps::cell_entered;
+use crate::cell_steps::cell_first;
+use crate::cell_steps::cell_left;
+use crate::cell_steps::cells_reached;
+use crate::cell_steps::piece_entered;
+use crate::cell_steps::piece_left;
+use crate::cell_steps::slots_of;
+use crate::cell_steps::step_after;
+use crate::cell_steps::step_first;
+use crate::cell_steps::value_entered;
+use crate::cell_steps::value_left;
+use gfm_table::rows::Reached;
+use gfm_table::stream::Part;
+use tokenizer::event::Event;
+use tokenizer::slots::put;
+ghost use mathlib.Core.Path.{_≡_};
+ghost use Prim.Native.Nat.{_≤_, _<_};
+ghost use Rattle.tokenizer.specs.Moves.{Inside};
+ghost use Rattle.gfm_table.specs.Places.{pointIn};
+ghost use Rattle.edit_map.specs.CellRows.{stepPut, cellsEnd, cellsWrote};
+
+// The events of a step are written.
+pub fn put_step(slots: &mut [Event], part: Part, line: u32, x: Step)
+    requires { ⌜ x .slot < 1000000000000 ⌝ }
+    ensures { λ _. ⌜ now (slots .exit) ≡ stepPut part line x (now (slots .entry)) ⌝ }
+{
+    let k = slots_of(x);
+    put(slots, k.left, cell_left(part, line, x));
+    put(slots, k.entered, cell_entered(part, line, x));
+    put(slots, k.opened, value_entered(part, line, x));
+    put(slots, k.begin, piece_entered(line, x));
+    put(slots, k.finish, piece_left(line, x));
+    put(slots, k.closed, value_left(part, line, x));
+}
+
+// The cells of a row with what stands in them, from its first byte, into the slots from a place on.
+pub fn write_cells(
+    s: &[u8],
+    part: Part,
+    line: u32,
+    from: u32,
+    slots: &mut [Event],
+    to: usize,
+) -> Reached
+    requires { ⌜ Inside (now s) (pointIn line from 1) × (to ≤ 4294967296) ⌝ }
+    ensures { λ r. ⌜ (r ≡ cellsEnd (now (s .entry)) part (pointIn line from 1) to) × (now (slots .exit) ≡ cellsWrote (now (s .entry)) part (pointIn line from 1) to (now (slots .entry))) ⌝ }
+{
+    put(slots, to, cell_first(part, line, from));
+    let mut x = step_first(s, part, from, to);
+    while x.at < x.end {
+        put_step(slots, part, line, x);
+        x = step_after(s, part, x);
+    }
+    put(slots, x.slot, cell_left(part, line, x));
+    cells_reached(x)
+}

@@ -1,0 +1,334 @@
+// The cells of a row by the places of its bytes, one step at a time: the next piece, with what it opens and closes.
+use crate::cell_spans::opens;
+use crate::cell_spans::reach;
+use crate::cell_spans::text_next;
+use crate::resolve_base::both;
+use crate::resolve_base::either;
+use crate::resolve_base::is_text_name;
+use gfm_table::rows::Placed;
+use gfm_table::rows::Reached;
+use gfm_table::rows::next_at;
+use gfm_table::stream::Part;
+use tokenizer::event::Event;
+use tokenizer::event::Name;
+use tokenizer::event::Point;
+use tokenizer::slots::past_if;
+use tokenizer::slots::slot_if;
+ghost use mathlib.Core.Path.{_≡_};
+ghost use mathlib.Core.Bool.{cond, not, _&&_};
+ghost use Prim.Native.Nat.{_≤_, _<_, _+_, _*_};
+ghost use lib.ListN.{length, drop};
+ghost use Rattle.tokenizer.specs.Lines.{lineBody};
+ghost use Rattle.tokenizer.specs.Events.{enter, leave};
+ghost use Rattle.gfm_table.specs.Places.{pointIn};
+ghost use Rattle.edit_map.specs.Spans.{textNext};
+ghost use Rattle.edit_map.specs.CellRows.{cellOf, valueOf, reachOf, stepFrom, stepOf, slotsIn, firstWithin, behind, startOf, stopOf, entryIn};
+
+// Inside a row's cell: the place, the column there, the next slot, whether a piece other than whitespace came, and whether the cell waits for a mark.
+pub struct Within {
+    pub at: u32,
+    pub column: u32,
+    pub slot: usize,
+    pub seen: bool,
+    pub waits: bool,
+}
+
+// A step: where it starts, its first slot, its piece with the link, whether a cell opens, whether a text or value is entered and left, where it ends, and what holds then.
+pub struct Step {
+    pub at: u32,
+    pub column: u32,
+    pub slot: usize,
+    pub name: u8,
+    pub link: u8,
+    pub opens: bool,
+    pub enters: bool,
+    pub leaves: bool,
+    pub end: u32,
+    pub stop: u32,
+    pub seen: bool,
+    pub waits: bool,
+}
+
+// The slots of a step's events, those past all slots where there is none, and the next slot.
+pub struct Slots {
+    pub left: usize,
+    pub entered: usize,
+    pub opened: usize,
+    pub begin: usize,
+    pub finish: usize,
+    pub closed: usize,
+    pub next: usize,
+}
+
+// The name of a row's cells.
+pub fn cell_name(part: Part) -> u8
+    ensures { λ r. ⌜ r ≡ cellOf part ⌝ }
+{
+    match part {
+        Part::Head => Name::GfmTableCell,
+        Part::Delimiter => Name::GfmTableDelimiterCell,
+        Part::Body => Name::GfmTableCell,
+    }
+}
+
+// The name of what encloses a cell's text or value.
+pub fn value_name(part: Part) -> u8
+    ensures { λ r. ⌜ r ≡ valueOf part ⌝ }
+{
+    match part {
+        Part::Head => Name::GfmTableCellText,
+        Part::Delimiter => Name::GfmTableDelimiterCellValue,
+        Part::Body => Name::GfmTableCellText,
+    }
+}
+
+// Whether the first holds and the second does not.
+pub fn unless(a: bool, b: bool) -> bool
+    ensures { λ r. ⌜ r ≡ (a && not b) ⌝ }
+{
+    if a {
+        if b {
+            return false;
+        }
+        return true;
+    }
+    false
+}
+
+// The link of an event: to a text, or none.
+pub fn link_if(go: bool) -> u8
+    ensures { λ r. ⌜ r ≡ cond go 1 0 ⌝ }
+{
+    if go { 1 } else { 0 }
+}
+
+// Whether a text comes next, where that is asked.
+pub fn text_follows(s: &[u8], go: bool, end: usize) -> bool
+    ensures { λ r. ⌜ r ≡ (go && textNext (lineBody (drop end (now (s .entry))))) ⌝ }
+{
+    if go {
+        return text_next(s, end);
+    }
+    false
+}
+
+// A piece, or the whole text that it begins.
+pub fn reach_from(s: &[u8], x: Placed) -> Placed
+    requires { ⌜ (length (now s) ≤ 65536) × (x .end ≤ length (now s)) × (x .column ≤ 4 * x .end + 1) ⌝ }
+    ensures { λ r. ⌜ r ≡ reachOf (now (s .entry)) x ⌝ }
+{
+    let e = reach(s, x.name, x.end as usize, x.column as usize);
+    Placed {
+        name: x.name,
+        end: e.at as u32,
+        column: e.column as u32,
+    }
+}
+
+// The step over a piece, by what was found out about it.
+pub fn step_from(w: Within, x: Placed, o: bool, m: bool, y: Placed) -> Step
+    ensures { λ r. ⌜ r ≡ stepFrom w x o m y ⌝ }
+{
+    let t = is_text_name(x.name);
+    let d = x.name == Name::Data;
+    Step {
+        at: w.at,
+        column: w.column,
+        slot: w.slot,
+        name: x.name,
+        link: link_if(d),
+        opens: o,
+        enters: both(t, either(d, w.waits)),
+        leaves: unless(t, m),
+        end: y.end,
+        stop: y.column,
+        seen: either(w.seen, x.name != Name::SpaceOrTab),
+        waits: either(o, unless(w.waits, t)),
+    }
+}
+
+// The step over the next piece of a row.
+pub fn step_at(s: &[u8], part: Part, w: Within) -> Step
+    requires { ⌜ (length (now s) ≤ 65536) × (w .at ≤ length (now s)) × (w .column ≤ 4 * w .at + 1) ⌝ }
+    ensures { λ r. ⌜ r ≡ stepOf (now (s .entry)) part w ⌝ }
+{
+    let x = next_at(s, part, w.at, w.column);
+    let e = x.end as usize;
+    let o = opens(s, w.seen, x.name, e);
+    let go = unless(is_text_name(x.name), x.name == Name::Data);
+    let m = text_follows(s, go, e);
+    step_from(w, x, o, m, reach_from(s, x))
+}
+
+// The first step of a row whose first cell is entered in a slot.
+pub fn step_first(s: &[u8], part: Part, from: u32, to: usize) -> Step
+    requires { ⌜ (length (now s) ≤ 65536) × (from ≤ length (now s)) × (to ≤ 4294967296) ⌝ }
+    ensures { λ r. ⌜ r ≡ stepOf (now (s .entry)) part (firstWithin from to) ⌝ }
+{
+    step_at(
+        s,
+        part,
+        Within {
+            at: from,
+            column: 1,
+            slot: to + 1,
+            seen: false,
+            waits: true,
+        },
+    )
+}
+
+// The slots of a step's events.
+pub fn slots_of(x: Step) -> Slots
+    requires { ⌜ x .slot < 1000000000000 ⌝ }
+    ensures { λ r. ⌜ r ≡ slotsIn x ⌝ }
+{
+    let a = past_if(x.opens, x.slot);
+    let b = past_if(x.opens, a);
+    let c = past_if(x.enters, b);
+    Slots {
+        left: slot_if(x.opens, x.slot),
+        entered: slot_if(x.opens, a),
+        opened: slot_if(x.enters, b),
+        begin: c,
+        finish: c + 1,
+        closed: slot_if(x.leaves, c + 2),
+        next: past_if(x.leaves, c + 2),
+    }
+}
+
+// The step behind a step.
+pub fn step_after(s: &[u8], part: Part, x: Step) -> Step
+    requires { ⌜ (length (now s) ≤ 65536) × (x .end ≤ length (now s)) × (x .stop ≤ 4 * x .end + 1) × (x .slot < 1000000000000) ⌝ }
+    ensures { λ r. ⌜ r ≡ stepOf (now (s .entry)) part (behind x) ⌝ }
+{
+    let k = slots_of(x);
+    step_at(
+        s,
+        part,
+        Within {
+            at: x.end,
+            column: x.stop,
+            slot: k.next,
+            seen: x.seen,
+            waits: x.waits,
+        },
+    )
+}
+
+// A row's first cell is entered.
+pub fn cell_first(part: Part, line: u32, from: u32) -> Event
+    ensures { λ r. ⌜ r ≡ enter (cellOf part) (pointIn line from 1) ⌝ }
+{
+    Event::enter(
+        cell_name(part),
+        Point {
+            line,
+            column: 1,
+            index: from,
+            vs: 0,
+        },
+    )
+}
+
+// A cell is entered where a step starts.
+pub fn cell_entered(part: Part, line: u32, x: Step) -> Event
+    ensures { λ r. ⌜ r ≡ enter (cellOf part) (startOf line x) ⌝ }
+{
+    Event::enter(
+        cell_name(part),
+        Point {
+            line,
+            column: x.column,
+            index: x.at,
+            vs: 0,
+        },
+    )
+}
+
+// A cell is left there.
+pub fn cell_left(part: Part, line: u32, x: Step) -> Event
+    ensures { λ r. ⌜ r ≡ leave (cellOf part) (startOf line x) ⌝ }
+{
+    Event::exit(
+        cell_name(part),
+        Point {
+            line,
+            column: x.column,
+            index: x.at,
+            vs: 0,
+        },
+    )
+}
+
+// A text or value is entered there.
+pub fn value_entered(part: Part, line: u32, x: Step) -> Event
+    ensures { λ r. ⌜ r ≡ enter (valueOf part) (startOf line x) ⌝ }
+{
+    Event::enter(
+        value_name(part),
+        Point {
+            line,
+            column: x.column,
+            index: x.at,
+            vs: 0,
+        },
+    )
+}
+
+// A text or value is left where a step ends.
+pub fn value_left(part: Part, line: u32, x: Step) -> Event
+    ensures { λ r. ⌜ r ≡ leave (valueOf part) (stopOf line x) ⌝ }
+{
+    Event::exit(
+        value_name(part),
+        Point {
+            line,
+            column: x.stop,
+            index: x.end,
+            vs: 0,
+        },
+    )
+}
+
+// The piece of a step is entered, with its link.
+pub fn piece_entered(line: u32, x: Step) -> Event
+    ensures { λ r. ⌜ r ≡ entryIn line x ⌝ }
+{
+    Event {
+        kind: 1,
+        name: x.name,
+        line,
+        column: x.column,
+        index: x.at,
+        vs: 0,
+        link: x.link,
+    }
+}
+
+// It is left.
+pub fn piece_left(line: u32, x: Step) -> Event
+    ensures { λ r. ⌜ r ≡ leave (x .name) (stopOf line x) ⌝ }
+{
+    Event::exit(
+        x.name,
+        Point {
+            line,
+            column: x.stop,
+            index: x.end,
+            vs: 0,
+        },
+    )
+}
+
+// Where a row ends whose last cell is left in the step's slot.
+pub fn cells_reached(x: Step) -> Reached
+    requires { ⌜ x .slot < 1000000000000 ⌝ }
+    ensures { λ r. ⌜ r ≡ record { at = x .at; column = x .column; slot = x .slot + 1 } ⌝ }
+{
+    Reached {
+        at: x.at,
+        column: x.column,
+        slot: x.slot + 1,
+    }
+}

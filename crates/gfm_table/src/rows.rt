@@ -1,0 +1,229 @@
+// The pieces of a row by the places of its bytes, one at a time, and their events written to lent slots.
+use crate::pieces::fillers_end;
+use crate::pieces::text_end;
+use crate::stream::Part;
+use tokenizer::event::Event;
+use tokenizer::event::Name;
+use tokenizer::event::Point;
+use tokenizer::moves::kind_at;
+use tokenizer::slots::put;
+ghost use mathlib.Core.Path.{_≡_};
+ghost use Prim.Native.Nat.{_≤_, _<_, _+_, _*_};
+ghost use lib.ListN.{length, drop};
+ghost use Rattle.tokenizer.specs.Bytes.{kindOf};
+ghost use Rattle.tokenizer.specs.Points.{columnAfter};
+ghost use Rattle.tokenizer.specs.Events.{SpaceOrTab, enter, leave};
+ghost use Rattle.tokenizer.specs.Lines.{lineBody, indent};
+ghost use Rattle.tokenizer.specs.Moves.{Inside};
+ghost use Rattle.gfm_table.specs.Stream.{piecesOf};
+ghost use Rattle.gfm_table.specs.Places.{pointIn, placed, nextAt, spotAt, rowEnd, rowWrote};
+ghost use Rattle.gfm_table.specs.declared.stream.Part.the-variants.{Delimiter, Body};
+
+// The next piece of a row: its name, 0 at the row's end, where it ends, and the column there.
+pub struct Placed {
+    pub name: u8,
+    pub end: u32,
+    pub column: u32,
+}
+
+// The column after a byte: a tab runs to the next stop.
+pub fn column_after(c: u32, b: u8) -> u32
+    requires { ⌜ c < 1000000 ⌝ }
+    ensures { λ r. ⌜ r ≡ columnAfter c b ⌝ }
+{
+    if b == 9 {
+        return (c + 3) / 4 * 4 + 1;
+    }
+    c + 1
+}
+
+// A run of spaces and tabs.
+pub fn spaces_at(s: &[u8], at: u32, column: u32) -> Placed
+    requires { ⌜ (length (now s) ≤ 65536) × (at ≤ length (now s)) × (column ≤ 4 * at + 1) ⌝ }
+    ensures { λ r. ⌜ r ≡ placed SpaceOrTab at column (indent kindOf (lineBody (drop at (now (s .entry))))) ⌝ }
+{
+    let mut i = at;
+    let mut c = column;
+    while kind_at(s, i as usize) == 1 {
+        c = column_after(c, s[i as usize]);
+        i += 1;
+    }
+    Placed {
+        name: Name::SpaceOrTab,
+        end: i,
+        column: c,
+    }
+}
+
+// A piece without a tab, up to a place: each byte is one column.
+pub fn flat_piece(name: u8, at: u32, end: usize, column: u32) -> Placed
+    requires { ⌜ (at ≤ end) × (end ≤ 65536) × (column ≤ 1000000) ⌝ }
+    ensures { λ r. ⌜ (r .name ≡ name) × (r .end ≡ end) × (r .column + at ≡ column + end) ⌝ }
+{
+    let e = end as u32;
+    Placed {
+        name,
+        end: e,
+        column: column + (e - at),
+    }
+}
+
+// The next piece of a head line or a body row.
+pub fn text_at(s: &[u8], at: u32, column: u32) -> Placed
+    requires { ⌜ (length (now s) ≤ 65536) × (at ≤ length (now s)) × (column ≤ 4 * at + 1) ⌝ }
+    ensures { λ r. ⌜ r ≡ nextAt at column (piecesOf Body (lineBody (drop at (now (s .entry))))) ⌝ }
+{
+    let i = at as usize;
+    match kind_at(s, i) {
+        1 => spaces_at(s, at, column),
+        2 => Placed {
+            name: 0,
+            end: at,
+            column,
+        },
+        3 => flat_piece(Name::GfmTableCellDivider, at, i + 1, column),
+        _ => flat_piece(Name::Data, at, text_end(s, i), column),
+    }
+}
+
+// The next piece of a delimiter row.
+pub fn marks_at(s: &[u8], at: u32, column: u32) -> Placed
+    requires { ⌜ (length (now s) ≤ 65536) × (at ≤ length (now s)) × (column ≤ 4 * at + 1) ⌝ }
+    ensures { λ r. ⌜ r ≡ nextAt at column (piecesOf Delimiter (lineBody (drop at (now (s .entry))))) ⌝ }
+{
+    let i = at as usize;
+    match kind_at(s, i) {
+        1 => spaces_at(s, at, column),
+        2 => Placed {
+            name: 0,
+            end: at,
+            column,
+        },
+        3 => flat_piece(Name::GfmTableCellDivider, at, i + 1, column),
+        6 => flat_piece(Name::GfmTableDelimiterMarker, at, i + 1, column),
+        _ => flat_piece(Name::GfmTableDelimiterFiller, at, fillers_end(s, i), column),
+    }
+}
+
+// The next piece of any row.
+pub fn next_at(s: &[u8], part: Part, at: u32, column: u32) -> Placed
+    requires { ⌜ (length (now s) ≤ 65536) × (at ≤ length (now s)) × (column ≤ 4 * at + 1) ⌝ }
+    ensures { λ r. ⌜ r ≡ nextAt at column (piecesOf part (lineBody (drop at (now (s .entry))))) ⌝ }
+{
+    match part {
+        Part::Head => text_at(s, at, column),
+        Part::Delimiter => marks_at(s, at, column),
+        Part::Body => text_at(s, at, column),
+    }
+}
+
+// Where the writing of a row's pieces stands: its line, the place and the column there, the next piece, and the slot of its entry.
+pub struct Spot {
+    pub line: u32,
+    pub at: u32,
+    pub column: u32,
+    pub next: Placed,
+    pub slot: usize,
+}
+
+// Where a row's pieces end: the place, the column there, and the slot after their events.
+pub struct Reached {
+    pub at: u32,
+    pub column: u32,
+    pub slot: usize,
+}
+
+// The writing at a place of a row.
+pub fn spot_at(s: &[u8], part: Part, line: u32, at: u32, column: u32, slot: usize) -> Spot
+    requires { ⌜ (length (now s) ≤ 65536) × (at ≤ length (now s)) × (column ≤ 4 * at + 1) ⌝ }
+    ensures { λ r. ⌜ r ≡ spotAt (now (s .entry)) part line at column slot ⌝ }
+{
+    Spot {
+        line,
+        at,
+        column,
+        next: next_at(s, part, at, column),
+        slot,
+    }
+}
+
+// The same behind the next piece.
+pub fn spot_after(s: &[u8], part: Part, x: Spot) -> Spot
+    requires { ⌜ (length (now s) ≤ 65536) × (x .next .end ≤ length (now s)) × (x .next .column ≤ 4 * x .next .end + 1) × (x .slot < 1000000000000) ⌝ }
+    ensures { λ r. ⌜ r ≡ spotAt (now (s .entry)) part (x .line) (x .next .end) (x .next .column) (x .slot + 2) ⌝ }
+{
+    let p = x.next;
+    spot_at(s, part, x.line, p.end, p.column, x.slot + 2)
+}
+
+// The next piece is entered.
+pub fn entry_of(x: Spot) -> Event
+    ensures { λ r. ⌜ r ≡ enter (x .next .name) (pointIn (x .line) (x .at) (x .column)) ⌝ }
+{
+    let p = x.next;
+    Event::enter(
+        p.name,
+        Point {
+            line: x.line,
+            column: x.column,
+            index: x.at,
+            vs: 0,
+        },
+    )
+}
+
+// The next piece is left.
+pub fn exit_of(x: Spot) -> Event
+    ensures { λ r. ⌜ r ≡ leave (x .next .name) (pointIn (x .line) (x .next .end) (x .next .column)) ⌝ }
+{
+    let p = x.next;
+    Event::exit(
+        p.name,
+        Point {
+            line: x.line,
+            column: p.column,
+            index: p.end,
+            vs: 0,
+        },
+    )
+}
+
+// The slot of the next piece's exit.
+pub fn exit_slot(x: Spot) -> usize
+    requires { ⌜ x .slot < 1000000000000 ⌝ }
+    ensures { λ r. ⌜ r ≡ x .slot + 1 ⌝ }
+{
+    x.slot + 1
+}
+
+// Where the writing has come to.
+pub fn reached_at(x: Spot) -> Reached
+    ensures { λ r. ⌜ r ≡ record { at = x .at; column = x .column; slot = x .slot } ⌝ }
+{
+    Reached {
+        at: x.at,
+        column: x.column,
+        slot: x.slot,
+    }
+}
+
+// The events of a row's pieces, from its first byte, into the slots from a place on.
+pub fn write_row(
+    s: &[u8],
+    part: Part,
+    line: u32,
+    from: u32,
+    slots: &mut [Event],
+    to: usize,
+) -> Reached
+    requires { ⌜ Inside (now s) (pointIn line from 1) × (to ≤ 4294967296) ⌝ }
+    ensures { λ r. ⌜ (r ≡ rowEnd (now (s .entry)) part (pointIn line from 1) to) × (now (slots .exit) ≡ rowWrote (now (s .entry)) part (pointIn line from 1) to (now (slots .entry))) ⌝ }
+{
+    let mut x = spot_at(s, part, line, from, 1, to);
+    while x.at < x.next.end {
+        put(slots, x.slot, entry_of(x));
+        put(slots, exit_slot(x), exit_of(x));
+        x = spot_after(s, part, x);
+    }
+    reached_at(x)
+}

@@ -1,0 +1,56 @@
+-- Tables by places.
+use Prim.Native.Nat.{ℕ, _≤_}
+use mathlib.Core.Path.{_≡_}
+use mathlib.Core.List.{List, _∷_}
+use mathlib.Core.Bool.{Bool}
+use Rattle.tokenizer.specs.declared.event.Point.{Point}
+use Rattle.tokenizer.specs.Bytes.{kindOf}
+use Rattle.tokenizer.specs.Events.{GfmTableHead, leave, pointOf}
+use Rattle.tokenizer.specs.Places.{endOf, linesFrom, linesPast}
+use Rattle.tokenizer.specs.Moves.{lineAt, after}
+use Rattle.gfm_table.specs.Places.{pointIn}
+use Rattle.edit_map.specs.Tables.{lastExit}
+use Rattle.sheet.specs.declared.spans.Where.{Where}
+use Rattle.sheet.specs.declared.spans.Tail.{Tail}
+use Rattle.sheet.specs.declared.spans.Span.{Span}
+use Rattle.sheet.specs.Walk.{Found, found, bodyRows, heads, rows}
+use Rattle.sheet.specs.From.{AtLine, here}
+
+-- the first point of a line
+abbrev pub startOf : Where → Point
+startOf w = pointIn (w .line) (w .at) 1
+
+-- the first point of a table
+abbrev pub headOf : Span → Point
+headOf t = pointIn (t .line) (t .at) 1
+
+-- where the last of the body rows after the line of a point is left; that line's end if there is none
+abbrev pub lastPoint : List ℕ → Point → Point
+lastPoint s p = pointOf (lastExit (leave GfmTableHead (endOf (here s p))) (bodyRows kindOf (here s p) (linesPast s p)))
+
+-- its index
+abbrev pub lastStop : List ℕ → Point → ℕ
+lastStop s p = lastPoint s p .index
+
+-- the body rows after the line of a point are passed: where they end, and the line from which the tables behind them come
+pub record EndsBody (s : List ℕ) (p : Point) (r : Tail) : Type 0 where
+  pub stop : r .stop ≡ lastStop s p
+  pub at : AtLine s (startOf (r .next))
+  pub beyond : r .stop ≤ r .next .at
+  pub tables : (on : Bool) → rows kindOf on (linesPast s p) ≡ heads kindOf on (linesFrom s (startOf (r .next)))
+
+-- the places of the table f, before the tables fs
+pub record Spanned (s : List ℕ) (on : Bool) (w : Where) (t : Span) (f : Found) (fs : List Found) : Type 0 where
+  pub at : AtLine s (headOf t)
+  pub onward : w .at ≤ t .at
+  pub ended : lineAt s (headOf t) .end ≡ 0 → ⊥
+  pub table : f ≡ found kindOf on (here s (headOf t)) (here s (after s (headOf t))) (linesPast s (after s (headOf t)))
+  pub end : t .end ≡ endOf (here s (after s (headOf t))) .index
+  pub stop : t .stop ≡ lastStop s (after s (headOf t))
+  pub next : AtLine s (startOf (t .next))
+  pub beyond : t .stop ≤ t .next .at
+  pub tables : fs ≡ heads kindOf on (linesFrom s (startOf (t .next)))
+
+-- the places of the first table from a line on, if there is one
+abbrev pub Spans : List ℕ → Bool → Where → Span → Type 0
+Spans s on w t = (f : Found) (fs : List Found) → heads kindOf on (linesFrom s (startOf w)) ≡ f ∷ fs → Spanned s on w t f fs
