@@ -22,7 +22,6 @@ use Rattle.gfm_table.proofs.Plans.{row-few, delimiter-few, row-length}
 use Rattle.edit_map.specs.Tables.{rawBody, rawTable}
 use Rattle.sheet.specs.Walk.{Found, lineEnd, bodyRows, rawOf, alignedOf, tableOf, opens, heads, rows}
 use Rattle.sheet.specs.From.{here}
-use Rattle.sheet.specs.Counting.{bodyEvents}
 use Rattle.sheet.proofs.Tests.{test}
 
 -- ## A line
@@ -171,10 +170,3 @@ module _ (on : Bool) where
 module _ (s : List ℕ) (on : Bool) (p : Point) where
   pub from-tally : tally (heads kindOf on (linesFrom s p)) ≤ 12 * length s + 8
   from-tally = omega (arith, heads-tally on (linesFrom s p), from-weight s p)
-
-  past-weight : weight (linesPast s p) ≤ 6 * length s + 4
-  unfolding weight
-  past-weight = test (eqb (lineAt s p .end) 0) (λ e. rw e (omega arith)) (λ e. rw e (from-weight s (after s p)))
-
-  pub past-tally : bodyEvents s p ≤ 12 * length s + 8
-  past-tally = omega (arith, rows-tally on (here s p) (linesPast s p), past-weight)

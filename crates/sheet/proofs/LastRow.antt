@@ -10,18 +10,19 @@ use Rattle.tokenizer.specs.declared.event.Event.{Event}
 use Rattle.tokenizer.specs.Bytes.{kindOf}
 use Rattle.tokenizer.specs.Events.{GfmTableHead, leave, pointOf}
 use Rattle.tokenizer.specs.Lines.{blank}
-use Rattle.tokenizer.specs.Places.{Placed, endOf, linesPast}
+use Rattle.tokenizer.specs.Places.{Placed, endOf, linesFrom, linesPast}
 use Rattle.tokenizer.specs.Moves.{restOf, lineAt, after, Inside}
 use Rattle.edit_map.specs.Tables.{BodyRow, lastExit}
-use Rattle.sheet.specs.Walk.{Found, bodyRows, rows}
+use Rattle.sheet.specs.Walk.{bodyRows, heads, rows}
 use Rattle.gfm_table.specs.declared.heads.Opened.{Opened}
 use Rattle.gfm_table.specs.Places.{pointIn}
 use Rattle.sheet.specs.declared.spans.Where.{Where}
 use Rattle.sheet.specs.declared.spans.Tail.{Tail}
 use Rattle.sheet.specs.From.{Opens, here}
-use Rattle.sheet.specs.Spans.{startOf, lastPoint, lastStop, EndsBody, Spans}
+use Rattle.sheet.specs.Spans.{startOf, lastPoint, lastStop, EndsBody, Comes}
 use Rattle.sheet.proofs.From.{past-last, after-line}
 use Rattle.sheet.proofs.Bodies.{next-lines}
+use Rattle.sheet.proofs.Aligned.{aligned-cells}
 
 -- the last exit is told by the point before it
 last-exit : (e f : Event) (bs : List BodyRow) → pointOf e ≡ pointOf f → pointOf (lastExit e bs) ≡ pointOf (lastExit f bs)
@@ -52,30 +53,28 @@ module _ (s : List ℕ) (p : Point) where
 
 module _ (s : List ℕ) (on : Bool) (w : Where) where
   -- what a head opens, whose line starts at a place
-  spanned : (l i : ℕ) (o : Opened) (r : Tail) → Opens s on (startOf w) (pointIn l i 1) o → EndsBody s (o .delimiter) r
-      → Spans s on w (record { line = l; at = i; end = o .end .index; stop = r .stop; next = r .next })
-  spanned l i o r h b f fs e =
+  opened : (l i : ℕ) (o : Opened) (r : Tail) → Opens s on (startOf w) (pointIn l i 1) o → EndsBody s (o .delimiter) r
+      → Comes s on (record { found = true; line = l; at = i; delimiter = o .delimiter .index; cells = o .cells; stop = r .stop; next = r .next }) (heads kindOf on (linesFrom s (startOf w)))
+  opened l i o r h b =
+      let q = pointIn l i 1 in
       let d = ap (λ (x : Opened). x .delimiter) (h .parts) in
-      let g = sym e ∙ h .tables in
-      record {
+      rw (h .tables)
+      (record {
+        found = refl;
         at = h .at;
-        onward = h .onward;
         ended = h .ended;
-        table = cc;
-        end = ap (λ (x : Opened). x .end .index) (h .parts);
+        table = refl;
+        delimiter = ap (λ (x : Point). x .index) d;
+        cells = ap (λ (x : Opened). x .cells) (h .parts) ∙ sym (aligned-cells on (here s q) (here s (after s q)) (h .opened));
         stop = b .stop ∙ ap (lastStop s) d;
         next = b .at;
-        beyond = b .beyond;
-        tables = tails g ∙ sym (ap (λ (p : Point). rows kindOf on (linesPast s p)) d) ∙ b .tables on;
-      }
-    where
-      tails : {f g : Found} {fs gs : List Found} → _≡_ {A = List Found} (f ∷ fs) (g ∷ gs) → fs ≡ gs
-      tails e = cc
+        tables = sym (ap (λ (p : Point). rows kindOf on (linesPast s p)) d) ∙ b .tables on;
+      })
 
   -- the same at the point where it was found
-  pub spans-of : (q : Point) (o : Opened) (r : Tail) → Opens s on (startOf w) q o → EndsBody s (o .delimiter) r
-      → Spans s on w (record { line = q .line; at = q .index; end = o .end .index; stop = r .stop; next = r .next })
-  spans-of q o r h b = spanned (q .line) (q .index) o r (subst (λ (x : Point). Opens s on (startOf w) x o) (λ j. record { line = q .line; column = h .at .first j; index = q .index; vs = h .at .inside .flat j }) h) b
+  pub comes-of : (q : Point) (o : Opened) (r : Tail) → Opens s on (startOf w) q o → EndsBody s (o .delimiter) r
+      → Comes s on (record { found = true; line = q .line; at = q .index; delimiter = o .delimiter .index; cells = o .cells; stop = r .stop; next = r .next }) (heads kindOf on (linesFrom s (startOf w)))
+  comes-of q o r h b = opened (q .line) (q .index) o r (subst (λ (x : Point). Opens s on (startOf w) x o) (λ j. record { line = q .line; column = h .at .first j; index = q .index; vs = h .at .inside .flat j }) h) b
 
   -- where its body begins
   pub opened-body : (q : Point) (o : Opened) → Opens s on (startOf w) q o → Inside s (o .delimiter) × (o .end .index ≡ o .delimiter .index + length (restOf s (o .delimiter)))

@@ -4,12 +4,11 @@ pub mod From
 pub mod Stops
 pub mod Bounds
 pub mod Bodies
+pub mod Aligned
 pub mod LastRow
 pub mod Placing
-pub mod Counting
 pub mod Aligning
 pub mod Slots
-pub mod Lending
 pub mod Types
 pub mod Tabled
 pub mod ResultRows

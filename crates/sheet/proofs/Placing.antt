@@ -291,21 +291,3 @@ module _ (s : List ℕ) where
     table-stop = ap (λ (x : Point). x .index) (stop-last-point (after s p))
 
 -- ## All tables
-
-module _ (k : ℕ) (f : Found) (fs : List Found) where
-  -- a table, and those behind it
-  pub tables-made : (zs : List Event) → wrote k (rawOf (f ∷ fs)) zs ≡ wrote (k + length (rawTable (f .table))) (rawOf fs) (wrote k (rawTable (f .table)) zs)
-  unfolding rawOf
-  tables-made zs = wrote-append k (rawTable (f .table)) (rawOf fs) zs
-
-  pub tables-few : Few k (rawOf (f ∷ fs)) → Few k (rawTable (f .table)) × Few (k + length (rawTable (f .table))) (rawOf fs)
-  unfolding rawOf
-  tables-few h = let e = length-append (rawTable (f .table)) (rawOf fs) in (omega (arith, e, h), omega (arith, e, h))
-
--- the slots of a sheet's events have small numbers
-pub sheet-few : (s : List ℕ) (on : Bool) → length s ≤ 65536 → Few 0 (rawOf (tables kindOf on s))
-sheet-few s on h = omega (arith, h, from-tally s on start)
-
--- the table that is found at a place
-pub table-found : (s : List ℕ) (on : Bool) (w : Where) (t : Span) (f : Found) (fs : List Found) → Spanned s on w t f fs → f .table ≡ tableAt s (headOf t)
-table-found s on w t f fs h = ap (λ (x : Found). x .table) (h .table)

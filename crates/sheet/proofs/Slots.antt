@@ -1,18 +1,19 @@
--- Slots that are filled one after the other, or part by part.
+-- Slots for alignments that are filled one after the other, or part by part.
 -- Assumes nothing.
 use Prim.Native.Nat.{ℕ, zero, suc, _+_, _-_, _≤_, _<_}
-use mathlib.Core.Path.{_≡_, ap, sym, _∙_}
+use mathlib.Core.Path.{_≡_, refl, ap, sym, _∙_}
 use mathlib.Core.List.{List, [], _∷_, _++_, append-assoc, append-nil}
-use mathlib.Core.Bool.{Bool, true, false, _&&_, false≢true}
 use native.Mathlib.Nat.{add-zero, add-suc, suc-add}
 use native.Mathlib.Numerals.{add-one}
 use native.Mathlib.Omega.{arith}
 use borrow.Author.Tests.{le-leb, lt-leb, leb-true}
 use lib.Dec.{leb}
 use borrow.Rule.Slice.PartMut.{midOf, putMid}
-use lib.ListN.{length, take, drop, set, take-append-drop, length-take, length-append, length-drop, drop-of-length-le, length-replicate, replicate-append-replicate}
+use lib.ListN.{length, take, drop, set, take-append-drop, length-take, length-append, length-drop, drop-of-length-le, length-replicate}
 use lib.Seq.{take-suc-set, append-snoc, drop-set-lt, drop-drop, take-at, drop-at, take-all}
-use Rattle.sheet.specs.Aligning.{filled, zeros, alignedInto, Written}
+use Rattle.sheet.specs.Walk.{Found, alignedOf}
+use Rattle.sheet.specs.Aligning.{filled, filledIf, zeros, zeroedFrom}
+use Rattle.sheet.specs.Writing.{alignedFrom}
 use Rattle.sheet.proofs.Tests.{test}
 
 pub filled-none : (c : ℕ) (out : List ℕ) → filled c [] out ≡ out
@@ -28,17 +29,18 @@ filled-last c v out l = sym (filled-none (c + 1) (set out c v)) ∙ filled-next 
 
 -- ## Zeros
 
-pub zeros-length : (n : ℕ) → length (zeros n) ≡ n
+zeros-length : (n : ℕ) → length (zeros n) ≡ n
 zeros-length n = length-replicate {A = ℕ} n 0
 
-zeros-drop : (k n : ℕ) → drop k (zeros n) ≡ zeros (n - k)
-zeros-drop zero n = ap zeros (let e : n ≡ n - 0 = omega arith in e)
-zeros-drop (suc k) zero = ap zeros (let e : 0 ≡ 0 - suc k = omega arith in e)
-zeros-drop (suc k) (suc n) = zeros-drop k n ∙ ap zeros (let e : n - k ≡ suc n - suc k = omega arith in e)
-
 -- one more slot is zero
-pub clear-next : (i : ℕ) (out : List ℕ) → i < length out → take i out ≡ zeros i → take (i + 1) (set out i 0) ≡ zeros (i + 1)
-clear-next i out l e = rw (add-one, take-suc-set out i 0 l, e) (replicate-append-replicate {A = ℕ} i 1 0 ∙ ap zeros (add-one i))
+pub zero-next : (i : ℕ) (out : List ℕ) → i < length out → filled (i + 1) (zeros (length out - (i + 1))) (set out i 0) ≡ zeroedFrom i out
+zero-next i out l =
+    filled-next i 0 (zeros (length out - (i + 1))) out l
+    ∙ ap (λ (k : ℕ). filled i (zeros k) out) (let e : suc (length out - (i + 1)) ≡ length out - i = omega (arith, l) in e)
+
+-- no slot is left
+pub zero-last : (i : ℕ) (out : List ℕ) → length out ≤ i → zeroedFrom i out ≡ out
+zero-last i out l = ap (λ (k : ℕ). filled i (zeros k) out) (let e : length out - i ≡ 0 = omega (arith, l) in e) ∙ filled-none i out
 
 -- ## Parts
 
@@ -73,30 +75,54 @@ module _ (n : ℕ) (xs out : List ℕ) (h : n + length xs ≤ length out) where
       ∙ ap (λ (z : List ℕ). take n out ++ ((xs ++ drop (0 + length xs) r) ++ z)) (drop-of-length-le r l)
       ∙ ap (λ (z : List ℕ). take n out ++ z) (append-nil (xs ++ drop (0 + length xs) r) ∙ ap (λ (z : List ℕ). xs ++ z) (drop-drop (0 + length xs) n out ∙ ap (λ (i : ℕ). drop i out) m))
 
--- some alignments into zeros
-pub filled-zeros : (xs : List ℕ) (n : ℕ) → filled 0 xs (zeros n) ≡ xs ++ zeros (n - length xs)
-filled-zeros xs n = ap (λ (z : List ℕ). xs ++ z) (zeros-drop (0 + length xs) n ∙ ap zeros (let e : n - (0 + length xs) ≡ n - length xs = omega arith in e))
-
--- one more part is filled: what is left to be filled makes the same slots
-pub slots-turn : (n m : ℕ) (xs zs ws out next : List ℕ) → n + length xs ≤ length out → m ≡ length xs → next ≡ filled n xs out → ws ≡ xs ++ zs → filled (n + m) zs next ≡ filled n ws out
-slots-turn n m xs zs ws out next h e f g = rw (e, f, g) (filled-then n xs out h zs)
-
 -- ## All slots
 
-module _ (xs : List ℕ) (n : ℕ) where
-  -- they have been cleared, and then some alignments are written if they fit
-  pub into-all : (out ys : List ℕ) → out ≡ zeros n → Written xs out ys → length xs ≤ n → ys ≡ alignedInto true xs n
-  into-all out ys e w h = rw (le-leb (length xs) n h) (w (omega (arith, h, ap length e, zeros-length n)) ∙ ap (filled 0 xs) e ∙ filled-zeros xs n)
+-- some alignments and as many zeros as there are further slots
+all-filled : (xs zs out : List ℕ) → length xs + length zs ≡ length out → filled 0 (xs ++ zs) out ≡ xs ++ zs
+all-filled xs zs out e =
+    ap (λ (l : List ℕ). (xs ++ zs) ++ l) (drop-of-length-le out (let h : length out ≤ 0 + length (xs ++ zs) = omega (arith, length-append xs zs, e) in h))
+    ∙ append-nil (xs ++ zs)
 
-  pub into-short : (ys : List ℕ) → n < length xs → ys ≡ zeros n → ys ≡ alignedInto true xs n
-  into-short ys h e = rw (lt-leb (length xs) n h) e
+-- the slots behind some alignments become zero
+pub zeroed-behind : (xs out : List ℕ) → length xs ≤ length out → zeroedFrom (length xs) (filled 0 xs out) ≡ xs ++ zeros (length out - length xs)
+zeroed-behind xs out h =
+    let z = zeros (length out - length xs) in
+    let k : 0 + length xs ≤ length out = omega (arith, h) in
+    let e : length xs ≡ 0 + length xs = omega arith in
+    ap (λ (m : ℕ). filled (length xs) (zeros (m - length xs)) (filled 0 xs out)) (filled-length 0 xs out k)
+    ∙ ap (λ (m : ℕ). filled m z (filled 0 xs out)) e
+    ∙ filled-then 0 xs out k z
+    ∙ all-filled xs z out (omega (arith, h, zeros-length (length out - length xs)))
 
-  pub into-length : (go : Bool) → length (alignedInto go xs n) ≡ n
-  into-length go = test (go && leb (length xs) n) (λ e. rw e (go-on (and-right go (leb (length xs) n) e))) (λ e. rw e (zeros-length n))
-    where
-      and-right : (a b : Bool) → a && b ≡ true → b ≡ true
-      and-right true b e = e
-      and-right false b e = absurd (false≢true e)
+-- all slots become zero
+pub zeroed-all : (out : List ℕ) → zeroedFrom 0 out ≡ zeros (length out)
+zeroed-all out = ap (λ (k : ℕ). filled 0 (zeros k) out) (let e : length out - 0 ≡ length out = omega arith in e) ∙ all-filled [] (zeros (length out)) out (omega (arith, zeros-length (length out)))
 
-      go-on : leb (length xs) n ≡ true → length (xs ++ zeros (n - length xs)) ≡ n
-      go-on e = omega (arith, length-append xs (zeros (n - length xs)), zeros-length (n - length xs), leb-true (length xs) n e)
+-- ## Slots that are filled where there are enough
+
+pub if-length : (n : ℕ) (xs out : List ℕ) → length (filledIf n xs out) ≡ length out
+if-length n xs out = test (leb (n + length xs) (length out)) (λ e. rw e (filled-length n xs out (leb-true _ _ e))) (λ e. rw e)
+
+pub if-fits : (n : ℕ) (xs out : List ℕ) → n + length xs ≤ length out → filledIf n xs out ≡ filled n xs out
+if-fits n xs out h = rw (le-leb (n + length xs) (length out) h)
+
+pub if-not : (n : ℕ) (xs out : List ℕ) → length out < n + length xs → filledIf n xs out ≡ out
+if-not n xs out h = rw (lt-leb (n + length xs) (length out) h)
+
+-- ## The alignments of all tables
+
+pub aligned-length : (n : ℕ) (fs : List Found) (out : List ℕ) → length (alignedFrom n fs out) ≡ length out
+unfolding alignedFrom
+aligned-length n [] out = refl
+aligned-length n (f ∷ fs) out = aligned-length (n + length (f .aligned)) fs (filledIf n (f .aligned) out) ∙ if-length n (f .aligned) out
+
+pub aligned-fits : (n : ℕ) (fs : List Found) (out : List ℕ) → n + length (alignedOf fs) ≤ length out → alignedFrom n fs out ≡ filled n (alignedOf fs) out
+unfolding alignedFrom alignedOf
+aligned-fits n [] out h = sym (filled-none n out)
+aligned-fits n (f ∷ fs) out h =
+    let xs = f .aligned in
+    let l : n + length xs + length (alignedOf fs) ≤ length out = omega (arith, h, length-append xs (alignedOf fs)) in
+    let k : n + length xs ≤ length out = omega (arith, l) in
+    ap (alignedFrom (n + length xs) fs) (if-fits n xs out k)
+    ∙ aligned-fits (n + length xs) fs (filled n xs out) (omega (arith, l, filled-length n xs out k))
+    ∙ filled-then n xs out k (alignedOf fs)

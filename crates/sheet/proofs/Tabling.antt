@@ -1,203 +1,247 @@
--- The loop that writes a sheet's tables: a table in each turn, its raw events to one row of slots and its result events to another.
+-- The loop that writes a sheet's tables: a table in each turn, its raw events, its result events and its alignments to a row of slots each.
 -- Assumes nothing.
-use Prim.Native.Nat.{ℕ, zero, suc, _+_, _-_, _*_, _<_, _≤_}
+use Prim.Native.Nat.{ℕ, suc, _+_, _*_, _<_, _≤_}
 use mathlib.Core.Path.{_≡_, refl, sym, ap, _∙_, subst}
-use mathlib.Core.Bool.{Bool}
+use mathlib.Core.Bool.{Bool, true, false, cond, true≢false}
 use mathlib.Core.List.{List, [], _∷_, _++_}
 use mathlib.Core.WellFounded.{WellFounded, InvImage·wf}
 use native.Mathlib.Omega.{arith}
-use native.Mathlib.Nat.{sub-zero}
-use lib.ListN.{length, take, length-append}
+use borrow.Author.Tests.{ltb-false}
+use lib.Dec.{ltb}
+use lib.ListN.{length, length-append}
 use lib.WfN.{Nat·lt-wfRel}
 use Rattle.tokenizer.specs.declared.event.Event.{Event}
 use Rattle.tokenizer.specs.Slots.{wrote}
 use Rattle.tokenizer.specs.Places.{linesFrom}
 use Rattle.tokenizer.specs.Bytes.{kindOf}
+use Rattle.tokenizer.specs.Moves.{after}
+use Rattle.tokenizer.specs.Points.{start}
 use Rattle.tokenizer.proofs.Writing.{wrote-none, wrote-append}
 use Rattle.edit_map.specs.Tables.{Table, rawTable, resolvedTable}
 use Rattle.sheet.specs.declared.spans.Span.{Span}
-use Rattle.sheet.specs.declared.spans.Where.{Where}
+use Rattle.sheet.specs.declared.write.Counts.{Counts}
 use Rattle.sheet.specs.declared.write.Tabled.{Tabled}
-use Rattle.sheet.specs.Walk.{Found, tables, heads, rawOf, resolvedOf}
-use Rattle.sheet.specs.From.{AtLine}
-use Rattle.sheet.specs.Spans.{startOf, headOf, Spanned, Spans}
+use Rattle.sheet.specs.Walk.{Found, tables, heads, rawOf, resolvedOf, alignedOf}
+use Rattle.sheet.specs.Spans.{startOf, headOf, Spanned, Comes}
 use Rattle.sheet.specs.Placing.{tableAt}
-use Rattle.sheet.specs.Writing.{Due}
-use Rattle.sheet.proofs.From.{start-line}
-use Rattle.sheet.proofs.Bounds.{from-tally}
+use Rattle.sheet.specs.Aligning.{alignmentsAt, filledIf}
+use Rattle.sheet.specs.Writing.{tablesRead, countsOf, oneMore, alignedFrom}
+use Rattle.sheet.proofs.From.{after-line}
+use Rattle.sheet.proofs.Bounds.{from-tally, tally}
 use Rattle.sheet.proofs.Doubling.{table-doubles}
-use Rattle.tokenizer.specs.Points.{start}
+use Rattle.sheet.proofs.Tests.{by-cases}
 
 -- ## The loop's state
 
-module _ {S : Type 0} (OK : ℕ → S → Type 0) (Inv : ℕ → S → List Event → List Event → Type 0) (stop : ℕ) (ys ms : List Event) where
+module _ {S : Type 0} (OK : S → List Found → Type 0) (Inv : S → List Found → List Event → List Event → List ℕ → Type 0) (ys ms : List Event) (ks : List ℕ) where
+  -- where the loop stands, the tables that are left, and the slots
   pub record Turn : Type 0 where
-    pub i : ℕ
     pub s : S
+    pub left : List Found
     pub zs : List Event
     pub ws : List Event
-    pub fits : OK i s
+    pub ns : List ℕ
+    pub fits : OK s left
     pub len : length zs ≡ length ys
     pub wlen : length ws ≡ length ms
-    pub inv : Inv i s zs ws
+    pub alen : length ns ≡ length ks
+    pub inv : Inv s left zs ws ns
 
   abbrev pub Fewer : Turn → Turn → Type 0
-  Fewer a b = stop - a .i < stop - b .i
+  Fewer a b = length (a .left) < length (b .left)
 
   pub Fewer-wf : WellFounded Fewer
-  Fewer-wf = InvImage·wf (λ (t : Turn). stop - t .i) (Nat·lt-wfRel .wf)
+  Fewer-wf = InvImage·wf (λ (t : Turn). length (t .left)) (Nat·lt-wfRel .wf)
 
-  abbrev pub starts : (s : S) → OK 0 s → Inv 0 s ys ms → Turn
-  starts s ok h = record { i = 0; s = s; zs = ys; ws = ms; fits = ok; len = refl; wlen = refl; inv = h }
+-- ## What is read
 
-  abbrev pub goes-on : (t : Turn) → (s : S) (zs ws : List Event) → OK (t .i + 1) s → length zs ≡ length ys → length ws ≡ length ms → Inv (t .i + 1) s zs ws → Turn
-  goes-on t s zs ws ok l k h = record { i = t .i + 1; s = s; zs = zs; ws = ws; fits = ok; len = l; wlen = k; inv = h }
+module _ (s : List ℕ) (on : Bool) where
+  -- a sheet with a table is not too long
+  pub read-short : 0 < length (tablesRead s on) → length s ≤ 65536
+  read-short = go (ltb 65536 (length s)) refl
+    where
+      go : (t : Bool) → ltb 65536 (length s) ≡ t → 0 < length (cond t [] (tables kindOf on s)) → length s ≤ 65536
+      go true e h = absurd (omega (arith, h))
+      go false e h = ltb-false 65536 (length s) e
 
--- ## What it does
+  -- and what is counted of it is little
+  pub read-few : tally (tablesRead s on) ≤ 1000000
+  unfolding rawOf alignedOf
+  read-few = go (ltb 65536 (length s)) refl
+    where
+      go : (t : Bool) → ltb 65536 (length s) ≡ t → tally (cond t [] (tables kindOf on s)) ≤ 1000000
+      go true e = omega arith
+      go false e = omega (arith, from-tally s on start, ltb-false 65536 (length s) e)
 
-module _ (s : List ℕ) (on : Bool) (n : ℕ) where
-  -- the tables still to come
-  abbrev pub left : Tabled → List Found
-  left c = heads kindOf on (linesFrom s (startOf (c .next)))
-
-  abbrev pub rest : ℕ → Tabled → List Found
-  rest i c = take (n - i) (left c)
-
-  pub record Facts (i : ℕ) (c : Tabled) : Type 0 where
-    pub at : AtLine s (startOf (c .next))
-    pub many : i + length (left c) ≡ n
-    pub raws : c .raw + length (rawOf (left c)) ≤ 1000000
-    pub few : c .results ≤ 2 * c .raw
-
-  abbrev pub Good : ℕ → Tabled → Type 0
-  Good i c = i < n → Facts i c
-
-  -- what is told of the slots
-  abbrev pub Told : List Event → List Event → ℕ → Tabled → List Event → List Event → Type 0
-  Told ys ms i c zs ws =
-      (wrote 0 (rawOf (take n (tables kindOf on s))) ys ≡ wrote (c .raw) (rawOf (rest i c)) zs)
-      × (wrote 0 (resolvedOf (take n (tables kindOf on s))) ms ≡ wrote (c .results) (resolvedOf (rest i c)) ws)
-      × (length (resolvedOf (take n (tables kindOf on s))) ≡ c .results + length (resolvedOf (rest i c)))
-
-  raw-more : (f : Found) (fs : List Found) → rawOf (f ∷ fs) ≡ rawTable (f .table) ++ rawOf fs
-  unfolding rawOf
-  raw-more f fs = refl
-
-  resolved-more : (f : Found) (fs : List Found) → resolvedOf (f ∷ fs) ≡ resolvedTable (f .table) ++ resolvedOf fs
-  unfolding resolvedOf
-  resolved-more f fs = refl
-
-  -- one table after the other
-  pub record Next (i : ℕ) (c : Tabled) (t : Span) : Type 0 where
-    pub f : Found
-    pub fs : List Found
-    pub is : left c ≡ f ∷ fs
-    pub span : Spanned s on (c .next) t f fs
-    pub table : f .table ≡ tableAt s (headOf t)
-    pub fewer : n - i ≡ suc (n - (i + 1))
-
-  some : (l : List Found) (i : ℕ) → i + length l ≡ n → i < n → (t : Span) (c : Tabled) → left c ≡ l → Spans s on (c .next) t → Next i c t
-  some [] i e h t c q p = absurd (omega (arith, e, h))
-  some (f ∷ fs) i e h t c q p =
-      let z = p f fs q in
-      record { f = f; fs = fs; is = q; span = z; table = ap {B = Table} (λ (x : Found). x .table) (z .table); fewer = omega (arith, h) }
-
-  pub next : (i : ℕ) (c : Tabled) (t : Span) → i < n → Facts i c → Spans s on (c .next) t → Next i c t
-  next i c t h g p = some (left c) i (g .many) h t c refl p
-
-  -- the state behind a table
-  abbrev pub onwardOf : Span → ℕ → ℕ → Tabled
-  onwardOf t a b = record { next = t .next; raw = a; results = b }
-
-  module _ (i : ℕ) (c : Tabled) (t : Span) (h : i < n) (g : Facts i c) (p : Spans s on (c .next) t) where
-    abbrev k : Next i c t
-    k = next i c t h g p
-
-    abbrev table : Table
-    table = tableAt s (headOf t)
-
-    abbrev c′ : Tabled
-    c′ = onwardOf t (c .raw + length (rawTable table)) (c .results + length (resolvedTable table))
-
-    left-is : left c′ ≡ k .fs
-    left-is = sym (k .span .tables)
-
-    rest-is : rest i c ≡ k .f ∷ rest (i + 1) c′
-    rest-is = (λ j. take (k .fewer j) (k .is j)) ∙ ap (λ (l : List Found). k .f ∷ take (n - (i + 1)) l) (sym left-is)
-
-    raw-is : rawOf (rest i c) ≡ rawTable table ++ rawOf (rest (i + 1) c′)
-    raw-is = ap rawOf rest-is ∙ raw-more (k .f) (rest (i + 1) c′) ∙ ap (λ (x : Table). rawTable x ++ rawOf (rest (i + 1) c′)) (k .table)
-
-    resolved-is : resolvedOf (rest i c) ≡ resolvedTable table ++ resolvedOf (rest (i + 1) c′)
-    resolved-is = ap resolvedOf rest-is ∙ resolved-more (k .f) (rest (i + 1) c′) ∙ ap (λ (x : Table). resolvedTable x ++ resolvedOf (rest (i + 1) c′)) (k .table)
-
-    all-raw : rawOf (left c) ≡ rawTable table ++ rawOf (left c′)
-    all-raw = ap rawOf (k .is) ∙ raw-more (k .f) (k .fs) ∙ (λ j. rawTable (k .table j) ++ rawOf (sym left-is j))
-
-    all-long : length (rawOf (left c)) ≡ length (rawTable table) + length (rawOf (left c′))
-    all-long = ap {B = ℕ} length all-raw ∙ length-append (rawTable table) (rawOf (left c′))
-
-    -- the raw events of the table have slots with small numbers
-    pub raw-few : c .raw + length (rawTable table) ≤ 4294967295
-    raw-few = omega (arith, g .raws, all-long)
-
-    -- and its result events
-    pub results-few : c .results + length (resolvedTable table) ≤ 4294967295
-    results-few = omega (arith, g .raws, all-long, g .few, table-doubles table)
-
-    pub goes-good : Good (i + 1) c′
-    goes-good l =
-        record {
-          at = k .span .next;
-          many = omega (arith, g .many, ap {B = ℕ} length (k .is), ap {B = ℕ} length left-is);
-          raws = omega (arith, g .raws, all-long);
-          few = omega (arith, g .few, table-doubles table);
-        }
-
-    pub goes-told : (ys ms zs ws : List Event) → Told ys ms i c zs ws → Told ys ms (i + 1) c′ (wrote (c .raw) (rawTable table) zs) (wrote (c .results) (resolvedTable table) ws)
-    goes-told ys ms zs ws (a, b, d) = (
-      a ∙ ap (λ (l : List Event). wrote (c .raw) l zs) raw-is ∙ wrote-append (c .raw) (rawTable table) (rawOf (rest (i + 1) c′)) zs,
-      b ∙ ap (λ (l : List Event). wrote (c .results) l ws) resolved-is ∙ wrote-append (c .results) (resolvedTable table) (resolvedOf (rest (i + 1) c′)) ws,
-      omega (arith, d, ap {B = ℕ} length resolved-is, length-append (resolvedTable table) (resolvedOf (rest (i + 1) c′))),
+-- there are at most twice as many result events
+results-few : (fs : List Found) → length (resolvedOf fs) ≤ 2 * length (rawOf fs)
+unfolding rawOf resolvedOf
+results-few [] = omega arith
+results-few (f ∷ fs) =
+    omega (
+      arith,
+      results-few fs,
+      table-doubles (f .table),
+      length-append (rawTable (f .table)) (rawOf fs),
+      length-append (resolvedTable (f .table)) (resolvedOf fs),
     )
 
-  -- where none is to come
-  no-rest : (i : ℕ) (c : Tabled) → n ≤ i → rest i c ≡ []
-  no-rest i c h = let z : n - i ≡ 0 = omega (arith, h) in ap (λ (k : ℕ). take k (left c)) z
+-- ## What the loop does
 
-  none-raw : rawOf [] ≡ []
-  unfolding rawOf
-  none-raw = refl
+module _ (s : List ℕ) (on : Bool) where
+  abbrev all : List Found
+  all = tablesRead s on
 
-  none-resolved : resolvedOf [] ≡ []
-  unfolding resolvedOf
-  none-resolved = refl
+  -- the tables fs are left
+  pub record Facts (c : Tabled) (fs : List Found) : Type 0 where
+    pub comes : Comes s on (c .next) fs
+    pub tables : c .counts .tables + length fs ≡ length all
+    pub raw : c .counts .raw + length (rawOf fs) ≡ length (rawOf all)
+    pub results : c .counts .results + length (resolvedOf fs) ≡ length (resolvedOf all)
+    pub aligned : c .counts .aligned + length (alignedOf fs) ≡ length (alignedOf all)
 
-  pub stops : (ys ms zs ws : List Event) (i : ℕ) (c : Tabled) → n ≤ i → Told ys ms i c zs ws
-      → (c .results ≡ length (resolvedOf (take n (tables kindOf on s)))) × ((zs ≡ wrote 0 (rawOf (take n (tables kindOf on s))) ys) × (ws ≡ wrote 0 (resolvedOf (take n (tables kindOf on s))) ms))
-  stops ys ms zs ws i c h (a, b, d) =
-      let e : rawOf (rest i c) ≡ [] = ap rawOf (no-rest i c h) ∙ none-raw in
-      let r : resolvedOf (rest i c) ≡ [] = ap resolvedOf (no-rest i c h) ∙ none-resolved in (
-        omega (arith, d, ap {B = ℕ} length r),
-        (
-          sym (a ∙ ap (λ (l : List Event). wrote (c .raw) l zs) e ∙ wrote-none (c .raw) zs),
-          sym (b ∙ ap (λ (l : List Event). wrote (c .results) l ws) r ∙ wrote-none (c .results) ws),
-        ),
+  -- what is told of the slots
+  abbrev pub Told : List Event → List Event → List ℕ → Tabled → List Found → List Event → List Event → List ℕ → Type 0
+  Told ys ms ks c fs zs ws ns =
+      (wrote 0 (rawOf all) ys ≡ wrote (c .counts .raw) (rawOf fs) zs)
+      × (wrote 0 (resolvedOf all) ms ≡ wrote (c .counts .results) (resolvedOf fs) ws)
+      × (alignedFrom 0 all ks ≡ alignedFrom (c .counts .aligned) fs ns)
+
+  -- before the first table
+  abbrev pub none : Counts
+  none = record { tables = 0; raw = 0; results = 0; aligned = 0 }
+
+  pub begins-good : (c : Tabled) → Comes s on (c .next) all → c .counts ≡ none → Facts c all
+  begins-good c h e = rw e (record { comes = h; tables = omega arith; raw = omega arith; results = omega arith; aligned = omega arith })
+
+  pub begins-told : (ys ms : List Event) (ks : List ℕ) (c : Tabled) → c .counts ≡ none → Told ys ms ks c all ys ms ks
+  begins-told ys ms ks c e = rw e (refl, refl, refl)
+
+  -- one table after the other
+  pub record Next (c : Tabled) (fs : List Found) : Type 0 where
+    pub f : Found
+    pub others : List Found
+    pub is : fs ≡ f ∷ others
+    pub span : Spanned s on (c .next) f others
+
+  pub next : (c : Tabled) (fs : List Found) → Comes s on (c .next) fs → c .next .found ≡ true → Next c fs
+  next c [] h t = absurd (true≢false (sym t ∙ h))
+  next c (f ∷ fs) h t = record { f = f; others = fs; is = refl; span = h }
+
+  module _ (c : Tabled) (fs : List Found) (g : Facts c fs) (k : Next c fs) where
+    abbrev pub table : Table
+    table = tableAt s (headOf (c .next))
+
+    table-is : k .f .table ≡ table
+    table-is = ap {B = Table} (λ (x : Found). x .table) (k .span .table)
+
+    abbrev pub its : List ℕ
+    its = alignmentsAt s (c .next .delimiter)
+
+    pub its-are : k .f .aligned ≡ its
+    its-are = ap {B = List ℕ} (λ (x : Found). x .aligned) (k .span .table) ∙ ap (alignmentsAt s) (sym (k .span .delimiter))
+
+    raw-is : rawOf fs ≡ rawTable table ++ rawOf (k .others)
+    unfolding rawOf
+    raw-is = ap rawOf (k .is) ∙ ap (λ (x : Table). rawTable x ++ rawOf (k .others)) table-is
+
+    resolved-is : resolvedOf fs ≡ resolvedTable table ++ resolvedOf (k .others)
+    unfolding resolvedOf
+    resolved-is = ap resolvedOf (k .is) ∙ ap (λ (x : Table). resolvedTable x ++ resolvedOf (k .others)) table-is
+
+    aligned-is : alignedOf fs ≡ its ++ alignedOf (k .others)
+    unfolding alignedOf
+    aligned-is = ap alignedOf (k .is) ∙ ap (λ (x : List ℕ). x ++ alignedOf (k .others)) its-are
+
+    raw-long : length (rawOf fs) ≡ length (rawTable table) + length (rawOf (k .others))
+    raw-long = ap {B = ℕ} length raw-is ∙ length-append (rawTable table) (rawOf (k .others))
+
+    resolved-long : length (resolvedOf fs) ≡ length (resolvedTable table) + length (resolvedOf (k .others))
+    resolved-long = ap {B = ℕ} length resolved-is ∙ length-append (resolvedTable table) (resolvedOf (k .others))
+
+    aligned-long : length (alignedOf fs) ≡ length its + length (alignedOf (k .others))
+    aligned-long = ap {B = ℕ} length aligned-is ∙ length-append its (alignedOf (k .others))
+
+    tables-long : length fs ≡ suc (length (k .others))
+    tables-long = ap {B = ℕ} length (k .is)
+
+    pub short : length s ≤ 65536
+    short = read-short s on (omega (arith, g .tables, tables-long))
+
+    -- the events of the table have slots with small numbers
+    pub raw-few : c .counts .raw + length (rawTable table) ≤ 4294967295
+    raw-few = omega (arith, g .raw, raw-long, read-few s on)
+
+    pub resolved-few : c .counts .results + length (resolvedTable table) ≤ 4294967295
+    resolved-few = omega (arith, g .results, resolved-long, results-few all, read-few s on)
+
+    -- and so have its alignments
+    pub cells-are : c .next .cells ≡ length its
+    cells-are = k .span .cells ∙ ap {B = ℕ} length its-are
+
+    pub aligned-few : c .counts .aligned + c .next .cells < 1000000000000
+    aligned-few = omega (arith, g .aligned, aligned-long, cells-are, read-few s on)
+
+    pub tables-few : c .counts .tables < 1000000000000
+    tables-few = omega (arith, g .tables, tables-long, read-few s on)
+
+    pub delimiter-within : c .next .delimiter ≤ length s
+    delimiter-within = omega (arith, k .span .delimiter, after-line s (headOf (c .next)) (k .span .ended) (k .span .at .inside) .inside .within)
+
+    -- the state behind the table
+    abbrev pub onward : Counts
+    onward = oneMore (c .counts) (c .counts .raw + length (rawTable table)) (c .counts .results + length (resolvedTable table)) (c .next .cells)
+
+    module _ (d : Tabled) (h : Comes s on (d .next) (heads kindOf on (linesFrom s (startOf (c .next .next))))) (e : d .counts ≡ onward) where
+      pub goes-good : Facts d (k .others)
+      goes-good =
+          rw e
+          (record {
+            comes = subst (Comes s on (d .next)) (sym (k .span .tables)) h;
+            tables = omega (arith, g .tables, tables-long);
+            raw = omega (arith, g .raw, raw-long);
+            results = omega (arith, g .results, resolved-long);
+            aligned = omega (arith, g .aligned, aligned-long, cells-are);
+          })
+
+      aligns : (ks : List ℕ) → alignedFrom (c .counts .aligned) fs ks ≡ alignedFrom (c .counts .aligned + c .next .cells) (k .others) (filledIf (c .counts .aligned) its ks)
+      unfolding alignedFrom
+      aligns ks =
+          ap (λ (l : List Found). alignedFrom (c .counts .aligned) l ks) (k .is)
+          ∙ ap (λ (x : List ℕ). alignedFrom (c .counts .aligned + length x) (k .others) (filledIf (c .counts .aligned) x ks)) its-are
+          ∙ ap (λ (m : ℕ). alignedFrom (c .counts .aligned + m) (k .others) (filledIf (c .counts .aligned) its ks)) (sym cells-are)
+
+      pub goes-told : (ys ms zs ws : List Event) (ks ns : List ℕ) → Told ys ms ks c fs zs ws ns
+          → Told ys ms ks d (k .others) (wrote (c .counts .raw) (rawTable table) zs) (wrote (c .counts .results) (resolvedTable table) ws) (filledIf (c .counts .aligned) its ns)
+      goes-told ys ms zs ws ks ns (x, y, z) = rw e (
+        x ∙ ap (λ (l : List Event). wrote (c .counts .raw) l zs) raw-is ∙ wrote-append (c .counts .raw) (rawTable table) (rawOf (k .others)) zs,
+        y ∙ ap (λ (l : List Event). wrote (c .counts .results) l ws) resolved-is ∙ wrote-append (c .counts .results) (resolvedTable table) (resolvedOf (k .others)) ws,
+        z ∙ aligns ns,
       )
 
-  -- before the first line
-  abbrev pub begun : Tabled
-  begun = record { next = record { line = 1; at = 0 }; raw = 0; results = 0 }
+    pub fewer : length (k .others) < length fs
+    fewer = omega (arith, tables-long)
 
-  pub begins-good : Due s on n → Good 0 begun
-  begins-good d l =
-      let h = d .short l in
-      record { at = start-line s h; many = omega (arith, d .all l); raws = omega (arith, from-tally s on start, h); few = omega arith }
+  -- none is left
+  left-none : (c : Tabled) (fs : List Found) → Comes s on (c .next) fs → c .next .found ≡ false → fs ≡ []
+  left-none c [] h t = refl
+  left-none c (f ∷ fs) h t = absurd (true≢false (sym (h .found) ∙ t))
 
-  pub begins-told : (ys ms : List Event) → Told ys ms 0 begun ys ms
-  begins-told ys ms =
-      let z = sym (sub-zero n) in (
-        ap (λ (k : ℕ). wrote 0 (rawOf (take k (tables kindOf on s))) ys) z,
-        ap (λ (k : ℕ). wrote 0 (resolvedOf (take k (tables kindOf on s))) ms) z,
-        omega (arith, ap (λ (k : ℕ). length (resolvedOf (take k (tables kindOf on s)))) z),
+  pub stops : (ys ms zs ws : List Event) (ks ns : List ℕ) (c : Tabled) (fs : List Found) → Facts c fs → Told ys ms ks c fs zs ws ns → c .next .found ≡ false
+      → (c .counts ≡ countsOf all) × ((zs ≡ wrote 0 (rawOf all) ys) × ((ws ≡ wrote 0 (resolvedOf all) ms) × (ns ≡ alignedFrom 0 all ks)))
+  unfolding rawOf resolvedOf alignedOf alignedFrom
+  stops ys ms zs ws ks ns c fs g (x, y, z) t =
+      let e = left-none c fs (g .comes) t in
+      let n : c .counts .tables ≡ length all = omega (arith, g .tables, ap {B = ℕ} length e) in
+      let a : c .counts .raw ≡ length (rawOf all) = omega (arith, g .raw, ap {B = ℕ} (λ (l : List Found). length (rawOf l)) e) in
+      let b : c .counts .results ≡ length (resolvedOf all) = omega (arith, g .results, ap {B = ℕ} (λ (l : List Found). length (resolvedOf l)) e) in
+      let m : c .counts .aligned ≡ length (alignedOf all) = omega (arith, g .aligned, ap {B = ℕ} (λ (l : List Found). length (alignedOf l)) e) in (
+        (λ i. record { tables = n i; raw = a i; results = b i; aligned = m i }),
+        (
+          sym (x ∙ ap (λ (l : List Found). wrote (c .counts .raw) (rawOf l) zs) e ∙ wrote-none (c .counts .raw) zs),
+          (
+            sym (y ∙ ap (λ (l : List Found). wrote (c .counts .results) (resolvedOf l) ws) e ∙ wrote-none (c .counts .results) ws),
+            sym (z ∙ ap (λ (l : List Found). alignedFrom (c .counts .aligned) l ns) e),
+          ),
+        ),
       )

@@ -1,5 +1,5 @@
 -- Alignments that are written to lent slots.
-use Prim.Native.Nat.{ℕ, _+_, _-_, _≤_}
+use Prim.Native.Nat.{ℕ, _+_, _-_}
 use mathlib.Core.Path.{_≡_}
 use mathlib.Core.List.{List, [], _∷_, _++_}
 use mathlib.Core.Bool.{Bool, cond, _&&_}
@@ -7,7 +7,7 @@ use lib.Dec.{eqb, leb}
 use lib.ListN.{length, take, drop, replicate}
 use Rattle.tokenizer.specs.Bytes.{kindOf}
 use Rattle.tokenizer.specs.Lines.{lineBody, isEmpty}
-use Rattle.gfm_table.specs.Heads.{stretches, trimmed, untrailed, alignment, alignments}
+use Rattle.gfm_table.specs.Heads.{stretches, trimmed, untrailed, values, alignment, alignments}
 use Rattle.gfm_table.specs.Delimiters.{stretch, written}
 use Rattle.sheet.specs.declared.align.Ends.{Ends}
 use Rattle.sheet.specs.declared.align.Mark.{Mark}
@@ -15,6 +15,10 @@ use Rattle.sheet.specs.declared.align.Mark.{Mark}
 -- what is left of a line at a place
 abbrev pub lineFrom : List ℕ → ℕ → List ℕ
 lineFrom s i = lineBody (drop i s)
+
+-- the alignments of the delimiter line at a place
+abbrev pub alignmentsAt : List ℕ → ℕ → List ℕ
+alignmentsAt s i = alignments kindOf (values kindOf (lineFrom s i))
 
 -- the alignments of the stretches from a place on, none for a last one that is empty
 abbrev pub alignsFrom : List ℕ → ℕ → List ℕ
@@ -51,18 +55,18 @@ pub record Marked (u : List ℕ) (i : ℕ) (m : Mark) : Type 0 where
 abbrev pub filled : ℕ → List ℕ → List ℕ → List ℕ
 filled n xs out = take n out ++ (xs ++ drop (n + length xs) out)
 
+-- the same where there are slots enough
+abbrev pub filledIf : ℕ → List ℕ → List ℕ → List ℕ
+filledIf n xs out = cond (leb (n + length xs) (length out)) (filled n xs out) out
+
 -- n zeros
 abbrev pub zeros : ℕ → List ℕ
 zeros n = replicate n 0
 
+-- the slots with zeros from the place n on
+abbrev pub zeroedFrom : ℕ → List ℕ → List ℕ
+zeroedFrom n out = filled n (zeros (length out - n)) out
+
 -- some alignments and then zeros where they are wanted and fit, otherwise zeros
 abbrev pub alignedInto : Bool → List ℕ → ℕ → List ℕ
 alignedInto go xs n = cond (go && leb (length xs) n) (xs ++ zeros (n - length xs)) (zeros n)
-
--- where some alignments fit the slots `out`, they are written to the first of them
-abbrev pub Written : List ℕ → List ℕ → List ℕ → Type 0
-Written xs out slots = length xs ≤ length out → slots ≡ filled 0 xs out
-
--- slots that stay as they are, or become zero
-abbrev pub keptIf : Bool → List ℕ → List ℕ
-keptIf keep xs = cond keep xs (zeros (length xs))

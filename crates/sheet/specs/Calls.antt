@@ -1,8 +1,8 @@
 -- What `sheet` answers, and what it leaves in the slots.
 use Prim.Native.Nat.{ℕ}
 use mathlib.Core.List.{List, []}
-use mathlib.Core.Bool.{Bool, true, false, cond}
-use lib.Dec.{eqb, leb, ltb}
+use mathlib.Core.Bool.{Bool, cond}
+use lib.Dec.{eqb, ltb}
 use lib.ListN.{length}
 use Rattle.tokenizer.specs.declared.event.Event.{Event}
 use Rattle.tokenizer.specs.Bytes.{kindOf}
@@ -10,11 +10,10 @@ use Rattle.tokenizer.specs.Slots.{slotsOf}
 use Rattle.gfm_table.specs.Calls.{orElse, slotRefusal}
 use Rattle.sheet.specs.declared.calls.Sheet.{Sheet}
 use Rattle.sheet.specs.declared.calls.Sheet.the-variants.{Refused, Accepted}
-use Rattle.sheet.specs.declared.calls.Plan.{Plan}
+use Rattle.sheet.specs.declared.calls.Lent.{Lent}
 use Rattle.sheet.specs.declared.calls.Verdict.{Verdict}
-use Rattle.sheet.specs.declared.count.Counts.{Counts}
+use Rattle.sheet.specs.declared.write.Counts.{Counts}
 use Rattle.sheet.specs.Walk.{Found, tables, rawOf, resolvedOf, alignedOf}
-use Rattle.sheet.specs.Counting.{countsOf}
 use Rattle.sheet.specs.Aligning.{alignedInto}
 
 -- ## Questions
@@ -25,11 +24,11 @@ longRefusal s = cond (ltb 65536 (length s)) 1 0
 
 -- question 12, of result events
 abbrev pub resultRefusal : ℕ → List Event → ℕ
-resultRefusal n xs = cond (leb (length xs) n) 0 12
+resultRefusal n xs = cond (ltb n (length xs)) 12 0
 
 -- question 14, of alignments
 abbrev pub alignRefusal : ℕ → List ℕ → ℕ
-alignRefusal n xs = cond (leb (length xs) n) 0 14
+alignRefusal n xs = cond (ltb n (length xs)) 14 0
 
 -- ## The answer, with n raw slots, m result slots and k alignment slots
 
@@ -66,33 +65,24 @@ module _ (s : List ℕ) (on : Bool) (n m k : ℕ) where
 
 -- ## The way there
 
--- the counts of a sheet that is not read
-abbrev pub noCounts : Counts
-noCounts = record { tables = 0; raw = 0; aligned = 0 }
-
--- refused before a slot is written: no table is
-abbrev pub noPlan : ℕ → Plan
-noPlan q = record { refusal = q; counts = noCounts }
-
--- questions 1 and 9, and the counts
-unfoldable pub planOf : List ℕ → Bool → ℕ → Plan
-planOf s on n =
-    cond (ltb 65536 (length s)) (noPlan 1)
-    (cond (ltb n (length (rawOf (tables kindOf on s)))) (noPlan 9)
-    (record { refusal = 0; counts = countsOf (tables kindOf on s) }))
+-- questions 1, 9, 12 and 14 of a sheet of n bytes, by what it has and what is lent: the number of the first answered no, or 0
+abbrev pub refusalOf : ℕ → Counts → Lent → ℕ
+refusalOf n c l =
+    cond (ltb 65536 n) 1
+    (cond (ltb (l .raw) (c .raw)) 9
+    (cond (ltb (l .results) (c .results)) 12
+    (cond (ltb (l .aligned) (c .aligned)) 14 0)))
 
 -- refused: no slot stays as it is
 abbrev pub noVerdict : ℕ → Verdict
-noVerdict q = record { answer = Refused q; go = false; raw = 0; results = 0 }
+noVerdict q = record { answer = Refused q; kept = record { raw = 0; results = 0; aligned = 0 } }
 
--- question 14, of a plan and r result events, with k slots
-abbrev pub acceptOf : Counts → ℕ → ℕ → Verdict
-acceptOf c r k =
-    cond (leb (c .aligned) k) (record { answer = Accepted (c .tables) (c .raw) r (c .aligned); go = true; raw = c .raw; results = r }) (noVerdict 14)
-
--- the answer, whether the alignments stay, and how many slots stay as they are: questions 12 and 14, with m result slots and k alignment slots
-unfoldable pub judgeOf : Plan → ℕ → ℕ → ℕ → Verdict
-judgeOf p r m k = cond (eqb (p .refusal) 0) (cond (leb r m) (acceptOf (p .counts) r k) (noVerdict 12)) (noVerdict (p .refusal))
+-- the answer, and how many slots stay as they are
+unfoldable pub judgeOf : ℕ → Counts → Lent → Verdict
+judgeOf n c l =
+    cond (eqb (refusalOf n c l) 0)
+    (record { answer = Accepted (c .tables) (c .raw) (c .results) (c .aligned); kept = record { raw = c .raw; results = c .results; aligned = c .aligned } })
+    (noVerdict (refusalOf n c l))
 
 -- the lesser of two numbers
 abbrev pub leastOf : ℕ → ℕ → ℕ

@@ -1,11 +1,9 @@
--- The next head from a line on, and the end of a table's body.
-use Prim.Native.Nat.{ℕ, _≤_, _<_}
+-- The next head from a line on.
+use Prim.Native.Nat.{ℕ, _≤_}
 use mathlib.Core.Path.{_≡_}
 use mathlib.Core.List.{List, [], _∷_}
 use mathlib.Core.Bool.{Bool, true, false}
 use Rattle.tokenizer.specs.declared.event.Point.{Point}
-use Rattle.tokenizer.specs.declared.lines.Further.{Further}
-use Rattle.tokenizer.specs.declared.lines.Further.the-variants.{More, Last}
 use Rattle.tokenizer.specs.Bytes.{kindOf}
 use Rattle.tokenizer.specs.Places.{Placed, linesFrom, linesPast}
 use Rattle.tokenizer.specs.Moves.{lineAt, after, Inside}
@@ -16,7 +14,7 @@ use Rattle.gfm_table.specs.Heads.{headRefusal}
 use Rattle.gfm_table.specs.Answers.{openedAt, headAt}
 use Rattle.sheet.specs.declared.seek.Next.{Next}
 use Rattle.sheet.specs.declared.seek.Next.the-variants.{Head, Nothing}
-use Rattle.sheet.specs.Walk.{Found, opens, found, heads, rows}
+use Rattle.sheet.specs.Walk.{opens, found, heads, rows}
 
 -- the first point of a line
 pub record AtLine (s : List ℕ) (p : Point) : Type 0 where
@@ -47,18 +45,3 @@ Tried s on p (Refused k) = headRefusal kindOf on false (lineAt s p) (lineAt s (a
 abbrev pub Finds : List ℕ → Bool → Point → Next → Type 0
 Finds s on p (Head q o) = Opens s on p q o
 Finds s on p Nothing = heads kindOf on (linesFrom s p) ≡ []
-
--- the tables from a line on, if there is one
-abbrev pub tablesAt : List ℕ → Bool → Further → List Found
-tablesAt s on (More q) = heads kindOf on (linesFrom s q)
-tablesAt s on Last = []
-
--- a line further on, if there is one
-abbrev pub FurtherOn : List ℕ → Point → Further → Type 0
-FurtherOn s p (More q) = AtLine s q × (p .index < q .index)
-FurtherOn s p Last = 0 ≤ 0
-
--- the body rows after the line of a point are passed, and the tables behind them come from the line that is next
-pub record Onward (s : List ℕ) (p : Point) (next : Further) : Type 0 where
-  pub tables : (on : Bool) → rows kindOf on (linesPast s p) ≡ tablesAt s on next
-  pub further : FurtherOn s p next

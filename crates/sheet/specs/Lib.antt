@@ -3,8 +3,7 @@ pub mod From
 pub mod Spans
 pub mod Placing
 pub mod Results
-pub mod Counting
 pub mod Aligning
-pub mod Calls
 pub mod Writing
+pub mod Calls
 pub mod Demands

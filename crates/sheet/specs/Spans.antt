@@ -1,8 +1,9 @@
 -- Tables by places.
-use Prim.Native.Nat.{ℕ, _≤_}
+use Prim.Native.Nat.{ℕ}
 use mathlib.Core.Path.{_≡_}
-use mathlib.Core.List.{List, _∷_}
-use mathlib.Core.Bool.{Bool}
+use mathlib.Core.List.{List, [], _∷_}
+use mathlib.Core.Bool.{Bool, true, false}
+use lib.ListN.{length}
 use Rattle.tokenizer.specs.declared.event.Point.{Point}
 use Rattle.tokenizer.specs.Bytes.{kindOf}
 use Rattle.tokenizer.specs.Events.{GfmTableHead, leave, pointOf}
@@ -13,7 +14,7 @@ use Rattle.edit_map.specs.Tables.{lastExit}
 use Rattle.sheet.specs.declared.spans.Where.{Where}
 use Rattle.sheet.specs.declared.spans.Tail.{Tail}
 use Rattle.sheet.specs.declared.spans.Span.{Span}
-use Rattle.sheet.specs.Walk.{Found, found, bodyRows, heads, rows}
+use Rattle.sheet.specs.Walk.{Found, found as foundAt, bodyRows, heads, rows}
 use Rattle.sheet.specs.From.{AtLine, here}
 
 -- the first point of a line
@@ -36,21 +37,21 @@ lastStop s p = lastPoint s p .index
 pub record EndsBody (s : List ℕ) (p : Point) (r : Tail) : Type 0 where
   pub stop : r .stop ≡ lastStop s p
   pub at : AtLine s (startOf (r .next))
-  pub beyond : r .stop ≤ r .next .at
   pub tables : (on : Bool) → rows kindOf on (linesPast s p) ≡ heads kindOf on (linesFrom s (startOf (r .next)))
 
 -- the places of the table f, before the tables fs
-pub record Spanned (s : List ℕ) (on : Bool) (w : Where) (t : Span) (f : Found) (fs : List Found) : Type 0 where
+pub record Spanned (s : List ℕ) (on : Bool) (t : Span) (f : Found) (fs : List Found) : Type 0 where
+  pub found : t .found ≡ true
   pub at : AtLine s (headOf t)
-  pub onward : w .at ≤ t .at
   pub ended : lineAt s (headOf t) .end ≡ 0 → ⊥
-  pub table : f ≡ found kindOf on (here s (headOf t)) (here s (after s (headOf t))) (linesPast s (after s (headOf t)))
-  pub end : t .end ≡ endOf (here s (after s (headOf t))) .index
+  pub table : f ≡ foundAt kindOf on (here s (headOf t)) (here s (after s (headOf t))) (linesPast s (after s (headOf t)))
+  pub delimiter : t .delimiter ≡ after s (headOf t) .index
+  pub cells : t .cells ≡ length (f .aligned)
   pub stop : t .stop ≡ lastStop s (after s (headOf t))
   pub next : AtLine s (startOf (t .next))
-  pub beyond : t .stop ≤ t .next .at
   pub tables : fs ≡ heads kindOf on (linesFrom s (startOf (t .next)))
 
--- the places of the first table from a line on, if there is one
-abbrev pub Spans : List ℕ → Bool → Where → Span → Type 0
-Spans s on w t = (f : Found) (fs : List Found) → heads kindOf on (linesFrom s (startOf w)) ≡ f ∷ fs → Spanned s on w t f fs
+-- the first of some tables comes, with its places, or that there is none
+abbrev pub Comes : List ℕ → Bool → Span → List Found → Type 0
+Comes s on t [] = t .found ≡ false
+Comes s on t (f ∷ fs) = Spanned s on t f fs

@@ -1,15 +1,11 @@
 // The alignments of a table, written to lent slots.
-use tokenizer::event::Point;
 use tokenizer::moves::kind_at;
 ghost use mathlib.Core.Path.{_≡_};
 ghost use mathlib.Core.Bool.{cond};
-ghost use Prim.Native.Nat.{_≤_, _<_};
+ghost use Prim.Native.Nat.{_≤_, _<_, _+_};
 ghost use lib.Dec.{eqb};
 ghost use lib.ListN.{length};
-ghost use Rattle.tokenizer.specs.Bytes.{kindOf};
-ghost use Rattle.tokenizer.specs.Moves.{restOf, Inside};
-ghost use Rattle.gfm_table.specs.Heads.{alignments, values};
-ghost use Rattle.sheet.specs.Aligning.{lineFrom, alignsFrom, endsOver, scanned, alignBy, filled, zeros, Marked};
+ghost use Rattle.sheet.specs.Aligning.{lineFrom, alignsFrom, alignmentsAt, endsOver, scanned, alignBy, filled, filledIf, zeroedFrom, Marked};
 
 // One stretch of a delimiter row: the kinds of its first and last byte that is no whitespace, 1 where there is none, and its end.
 pub struct Ends {
@@ -105,7 +101,7 @@ pub fn mark_at(s: &[u8], at: usize) -> Mark
 // Where a delimiter line's values start: after a leading divider.
 pub fn values_from(s: &[u8], at: usize) -> usize
     requires { ⌜ (length (now s) ≤ 65536) × (at ≤ length (now s)) ⌝ }
-    ensures { λ r. ⌜ (r ≤ length (now (s .entry))) × (alignsFrom (now (s .entry)) r ≡ alignments kindOf (values kindOf (lineFrom (now (s .entry)) at))) ⌝ }
+    ensures { λ r. ⌜ (r ≤ length (now (s .entry))) × (alignsFrom (now (s .entry)) r ≡ alignmentsAt (now (s .entry)) at) ⌝ }
 {
     let m = mark_at(s, at);
     if m.empty {
@@ -140,18 +136,28 @@ pub fn align_rest(s: &[u8], at: usize, slots: &mut [u8])
 }
 
 // One table's alignments, from its delimiter line, into the first of the slots.
-pub fn align_line(s: &[u8], p: Point, slots: &mut [u8])
-    requires { ⌜ Inside (now s) p × (length (alignments kindOf (values kindOf (restOf (now s) p))) ≤ length (now slots)) ⌝ }
-    ensures { λ _. ⌜ now (slots .exit) ≡ filled 0 (alignments kindOf (values kindOf (restOf (now (s .entry)) p))) (now (slots .entry)) ⌝ }
+pub fn align_line(s: &[u8], at: usize, slots: &mut [u8])
+    requires { ⌜ (length (now s) ≤ 65536) × (at ≤ length (now s)) × (length (alignmentsAt (now s) at) ≤ length (now slots)) ⌝ }
+    ensures { λ _. ⌜ now (slots .exit) ≡ filled 0 (alignmentsAt (now (s .entry)) at) (now (slots .entry)) ⌝ }
 {
-    align_rest(s, values_from(s, p.index as usize), slots);
+    align_rest(s, values_from(s, at), slots);
 }
 
-// Every slot is zero.
-pub fn clear(slots: &mut [u8])
-    ensures { λ _. ⌜ now (slots .exit) ≡ zeros (length (now (slots .entry))) ⌝ }
+// The same from a slot on, where there are slots enough: the slots that are left are lent on.
+pub fn align_from(s: &[u8], at: usize, cells: usize, slots: &mut [u8], n: usize)
+    requires { ⌜ (length (now s) ≤ 65536) × (at ≤ length (now s)) × (cells ≡ length (alignmentsAt (now s) at)) × (n + cells < 1000000000000) ⌝ }
+    ensures { λ _. ⌜ now (slots .exit) ≡ filledIf n (alignmentsAt (now (s .entry)) at) (now (slots .entry)) ⌝ }
 {
-    let mut i = 0;
+    if n + cells <= slots.len() {
+        align_line(s, at, &mut slots[n..]);
+    }
+}
+
+// The slots from a place on become zero, and those before it stay.
+pub fn zero_from(slots: &mut [u8], n: usize)
+    ensures { λ _. ⌜ now (slots .exit) ≡ zeroedFrom n (now (slots .entry)) ⌝ }
+{
+    let mut i = n;
     while i < slots.len() {
         slots[i] = 0;
         i += 1;

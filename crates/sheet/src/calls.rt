@@ -1,14 +1,7 @@
-// What `sheet` answers: the parts of the call that look at no slot, and the thin ones that lend slots on.
-use crate::align::clear;
-use crate::count::Counts;
-use crate::count::count_into;
+// What `sheet` answers: the parts of the call that look at no slot.
+use crate::write::Counts;
 ghost use mathlib.Core.Path.{_≡_};
-ghost use lib.Dec.{leb};
-ghost use lib.ListN.{length};
-ghost use Rattle.tokenizer.specs.Bytes.{kindOf};
-ghost use Rattle.sheet.specs.Walk.{tables, alignedOf};
-ghost use Rattle.sheet.specs.Aligning.{alignedInto, keptIf};
-ghost use Rattle.sheet.specs.Calls.{noPlan, planOf, noVerdict, acceptOf, judgeOf, leastOf};
+ghost use Rattle.sheet.specs.Calls.{noVerdict, refusalOf, judgeOf, leastOf};
 
 // A sheet is refused by a number, or accepted with the numbers of its tables, raw events, result events and alignments.
 pub enum Sheet {
@@ -21,52 +14,28 @@ pub enum Sheet {
     },
 }
 
-// The first question answered no, or 0, and the counts.
-pub struct Plan {
-    pub refusal: u8,
-    pub counts: Counts,
-}
-
-// The answer, whether the alignments stay, and how many raw and result slots stay as they are.
-pub struct Verdict {
-    pub answer: Sheet,
-    pub go: bool,
+// How many slots of each kind are lent.
+pub struct Lent {
     pub raw: usize,
     pub results: usize,
+    pub aligned: usize,
 }
 
-// A sheet that is refused before it is read.
-pub fn no_plan(refusal: u8) -> Plan
-    ensures { λ r. ⌜ r ≡ noPlan refusal ⌝ }
-{
-    Plan {
-        refusal,
-        counts: Counts::NONE,
-    }
+// The answer, and how many slots of each kind stay as they are.
+pub struct Verdict {
+    pub answer: Sheet,
+    pub kept: Lent,
 }
 
-// Questions 1 and 9. The alignments of a sheet that is not too long are written, where they fit.
-pub fn sheet_plan(s: &[u8], on: bool, slots: usize, alignments: &mut [u8]) -> Plan
-    ensures { λ r. ⌜ (r ≡ planOf (now (s .entry)) on slots)
-        × (now (alignments .exit) ≡ alignedInto (leb (length (now (s .entry))) 65536) (alignedOf (tables kindOf on (now (s .entry)))) (length (now (alignments .entry)))) ⌝ }
+// The slots that are lent.
+pub fn slots_lent(raw: usize, results: usize, aligned: usize) -> Lent
+    ensures { λ r. ⌜ r ≡ record { raw = raw; results = results; aligned = aligned } ⌝ }
 {
-    if 65536 < s.len() {
-        clear(alignments);
-        return no_plan(1);
+    Lent {
+        raw,
+        results,
+        aligned,
     }
-    let counts = count_into(s, on, alignments);
-    if slots < counts.raw as usize {
-        return no_plan(9);
-    }
-    Plan { refusal: 0, counts }
-}
-
-// How many tables are written.
-pub fn planned(p: Plan) -> usize
-    ensures { λ r. ⌜ r ≡ p .counts .tables ⌝ }
-{
-    let c = p.counts;
-    c.tables as usize
 }
 
 // Refused: no slot stays.
@@ -75,54 +44,54 @@ pub fn no_verdict(refusal: u8) -> Verdict
 {
     Verdict {
         answer: Sheet::Refused(refusal),
-        go: false,
-        raw: 0,
-        results: 0,
+        kept: Lent {
+            raw: 0,
+            results: 0,
+            aligned: 0,
+        },
     }
 }
 
-// Question 14.
-pub fn accept(c: Counts, results: usize, align_slots: usize) -> Verdict
-    ensures { λ r. ⌜ r ≡ acceptOf c results «align_slots» ⌝ }
+// Questions 1, 9, 12 and 14, of a sheet of n bytes: the number of the first answered no, or 0.
+pub fn refusal(n: usize, c: Counts, l: Lent) -> u8
+    ensures { λ r. ⌜ r ≡ refusalOf n c l ⌝ }
 {
-    if c.aligned as usize <= align_slots {
-        return Verdict {
-            answer: Sheet::Accepted {
-                tables: c.tables as usize,
-                events: c.raw as usize,
-                results,
-                alignments: c.aligned as usize,
-            },
-            go: true,
-            raw: c.raw as usize,
-            results,
-        };
+    if 65536 < n {
+        return 1;
     }
-    no_verdict(14)
+    if l.raw < c.raw {
+        return 9;
+    }
+    if l.results < c.results {
+        return 12;
+    }
+    if l.aligned < c.aligned {
+        return 14;
+    }
+    0
 }
 
-// Questions 12 and 14, where so many result events were written.
-pub fn judge(p: Plan, results: usize, result_slots: usize, align_slots: usize) -> Verdict
-    ensures { λ v. ⌜ v ≡ judgeOf p results «result_slots» «align_slots» ⌝ }
+// The verdict on a sheet of n bytes with so many tables, events and alignments.
+pub fn judge(n: usize, c: Counts, l: Lent) -> Verdict
+    ensures { λ r. ⌜ r ≡ judgeOf n c l ⌝ }
 {
-    if p.refusal != 0 {
-        return no_verdict(p.refusal);
+    let q = refusal(n, c, l);
+    if q != 0 {
+        return no_verdict(q);
     }
-    if results <= result_slots {
-        let c = p.counts;
-        return accept(c, results, align_slots);
+    Verdict {
+        answer: Sheet::Accepted {
+            tables: c.tables,
+            events: c.raw,
+            results: c.results,
+            alignments: c.aligned,
+        },
+        kept: Lent {
+            raw: c.raw,
+            results: c.results,
+            aligned: c.aligned,
+        },
     }
-    no_verdict(12)
-}
-
-// The slots stay as they are, or become zero.
-pub fn clear_unless(slots: &mut [u8], keep: bool)
-    ensures { λ _. ⌜ now (slots .exit) ≡ keptIf keep (now (slots .entry)) ⌝ }
-{
-    if keep {
-        return;
-    }
-    clear(slots);
 }
 
 // The lesser of two numbers.

@@ -1,9 +1,8 @@
 // The walk over a whole sheet.
+use align::zero_from;
 use calls::Sheet;
-use calls::clear_unless;
 use calls::judge;
-use calls::planned;
-use calls::sheet_plan;
+use calls::slots_lent;
 use tokenizer::event::Event;
 use tokenizer::slots::clear_from;
 use write::write_tables;
@@ -13,7 +12,6 @@ ghost use Rattle.sheet.specs.Calls.{sheetOf, sheetRaw, sheetResults, she
 
 pub mod align;
 pub mod calls;
-pub mod count;
 pub mod results;
 pub mod seek;
 pub mod spans;
@@ -33,12 +31,11 @@ pub fn sheet(
         × ((now (results .exit) ≡ sheetResults (now (sheet .entry)) «code_indented» (length (now (raw .entry))) (length (now (results .entry))) (length (now (alignments .entry))))
         × (now (alignments .exit) ≡ sheetAligned (now (sheet .entry)) «code_indented» (length (now (raw .entry))) (length (now (results .entry))) (length (now (alignments .entry)))))) ⌝ }
 {
-    let plan = sheet_plan(sheet, code_indented, raw.len(), alignments);
-    let n = planned(plan);
-    let k = write_tables(sheet, code_indented, n, raw, results);
-    let v = judge(plan, k, results.len(), alignments.len());
-    clear_unless(alignments, v.go);
-    clear_from(raw, v.raw);
-    clear_from(results, v.results);
+    let c = write_tables(sheet, code_indented, raw, results, alignments);
+    let l = slots_lent(raw.len(), results.len(), alignments.len());
+    let v = judge(sheet.len(), c, l);
+    clear_from(raw, v.kept.raw);
+    clear_from(results, v.kept.results);
+    zero_from(alignments, v.kept.aligned);
     v.answer
 }

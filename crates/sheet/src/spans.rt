@@ -11,7 +11,10 @@ ghost use Prim.Native.Nat.{_+_};
 ghost use lib.ListN.{length};
 ghost use Rattle.tokenizer.specs.Moves.{restOf, Inside};
 ghost use Rattle.sheet.specs.From.{AtLine};
-ghost use Rattle.sheet.specs.Spans.{startOf, EndsBody, Spans};
+ghost use Rattle.tokenizer.specs.Bytes.{kindOf};
+ghost use Rattle.tokenizer.specs.Places.{linesFrom};
+ghost use Rattle.sheet.specs.Walk.{heads};
+ghost use Rattle.sheet.specs.Spans.{startOf, EndsBody, Comes};
 
 // Where a line starts: its number and its index.
 pub struct Where {
@@ -25,13 +28,28 @@ pub struct Tail {
     pub next: Where,
 }
 
-// A table: its head line, where its delimiter row and its last row end, and the line where the walk goes on.
+// Whether there is a table, and its places: its head line, where its delimiter row starts, how many alignments it has, where its last row ends, and the line where the walk goes on.
 pub struct Span {
+    pub found: bool,
     pub line: u32,
     pub at: u32,
-    pub end: u32,
+    pub delimiter: u32,
+    pub cells: u32,
     pub stop: u32,
     pub next: Where,
+}
+
+impl Span {
+    // No table.
+    pub const NONE: Span = Span {
+        found: false,
+        line: 1,
+        at: 0,
+        delimiter: 0,
+        cells: 0,
+        stop: 0,
+        next: Where { line: 1, at: 0 },
+    };
 }
 
 // The end of the body rows after a line of a table whose bytes end at a place.
@@ -70,10 +88,10 @@ pub fn body_end(s: &[u8], p: Point, end: usize) -> Tail
     }
 }
 
-// The first table from a line on. Where there is none, the answer tells nothing.
+// The first table from a line on.
 pub fn table_from(s: &[u8], on: bool, w: Where) -> Span
     requires { ⌜ AtLine (now s) (startOf w) ⌝ }
-    ensures { λ r. ⌜ Spans (now (s .entry)) on w r ⌝ }
+    ensures { λ r. ⌜ Comes (now (s .entry)) on r (heads kindOf on (linesFrom (now (s .entry)) (startOf w))) ⌝ }
 {
     let p = Point {
         line: w.line,
@@ -82,22 +100,18 @@ pub fn table_from(s: &[u8], on: bool, w: Where) -> Span
         vs: 0,
     };
     match next_head(s, p, on) {
-        Next::Nothing => Span {
-            line: 1,
-            at: 0,
-            end: 0,
-            stop: 0,
-            next: w,
-        },
+        Next::Nothing => Span::NONE,
         Next::Head(q, o) => {
             let d = o.delimiter;
             let e = o.end;
             let t = body_end(s, d, e.index as usize);
             let next = t.next;
             Span {
+                found: true,
                 line: q.line,
                 at: q.index,
-                end: e.index,
+                delimiter: d.index,
+                cells: o.cells,
                 stop: t.stop,
                 next,
             }

@@ -1,4 +1,5 @@
 // A sheet's tables, written to the slots.
+use crate::align::align_from;
 use crate::results::result_table;
 use crate::spans::Span;
 use crate::spans::Where;
@@ -6,53 +7,120 @@ use crate::spans::table_from;
 use crate::tables::raw_table;
 use tokenizer::event::Event;
 ghost use mathlib.Core.Path.{_≡_};
-ghost use lib.ListN.{length, take};
+ghost use Prim.Native.Nat.{_≤_, _<_, _+_};
+ghost use lib.ListN.{length};
 ghost use Rattle.tokenizer.specs.Bytes.{kindOf};
+ghost use Rattle.tokenizer.specs.Places.{linesFrom};
 ghost use Rattle.tokenizer.specs.Slots.{wrote};
-ghost use Rattle.sheet.specs.Walk.{tables, rawOf, resolvedOf};
-ghost use Rattle.sheet.specs.Writing.{Due};
+ghost use Rattle.sheet.specs.Walk.{heads, rawOf, resolvedOf};
+ghost use Rattle.sheet.specs.From.{AtLine};
+ghost use Rattle.sheet.specs.Spans.{startOf, Comes};
+ghost use Rattle.sheet.specs.Aligning.{alignmentsAt, filledIf};
+ghost use Rattle.sheet.specs.Writing.{tablesRead, countsOf, oneMore, alignedFrom};
 
-// How far the tables are written: the line from which the next comes, and the next slots.
-pub struct Tabled {
-    pub next: Where,
+// How many tables, raw events, result events and alignments there are: the next slots.
+pub struct Counts {
+    pub tables: usize,
     pub raw: usize,
     pub results: usize,
+    pub aligned: usize,
 }
 
-// Before the first line.
-pub fn first_line() -> Tabled
-    ensures { λ r. ⌜ r ≡ record { next = record { line = 1; at = 0 }; raw = 0; results = 0 } ⌝ }
+// The next table, and the counts of those before it.
+pub struct Tabled {
+    pub next: Span,
+    pub counts: Counts,
+}
+
+// The first table of a sheet, none where the sheet is too long.
+pub fn first_span(s: &[u8], on: bool) -> Span
+    ensures { λ r. ⌜ Comes (now (s .entry)) on r (tablesRead (now (s .entry)) on) ⌝ }
+{
+    if 65536 < s.len() {
+        return Span::NONE;
+    }
+    table_from(s, on, Where { line: 1, at: 0 })
+}
+
+// Before the first table.
+pub fn first_table(s: &[u8], on: bool) -> Tabled
+    ensures { λ r. ⌜ Comes (now (s .entry)) on (r .next) (tablesRead (now (s .entry)) on) × (r .counts ≡ record { tables = 0; raw = 0; results = 0; aligned = 0 }) ⌝ }
 {
     Tabled {
-        next: Where { line: 1, at: 0 },
-        raw: 0,
-        results: 0,
+        next: first_span(s, on),
+        counts: Counts {
+            tables: 0,
+            raw: 0,
+            results: 0,
+            aligned: 0,
+        },
     }
 }
 
-// Behind a table.
-pub fn behind_table(t: Span, raw: usize, results: usize) -> Tabled
-    ensures { λ r. ⌜ r ≡ record { next = t .next; raw = raw; results = results } ⌝ }
+// Behind a table, whose events end before the slots that are said.
+pub fn next_table(s: &[u8], on: bool, c: Tabled, raw: usize, results: usize) -> Tabled
+    requires { ⌜ AtLine (now s) (startOf (c .next .next)) × (c .counts .tables < 1000000000000) × (c .counts .aligned + c .next .cells < 1000000000000) ⌝ }
+    ensures { λ r. ⌜ Comes (now (s .entry)) on (r .next) (heads kindOf on (linesFrom (now (s .entry)) (startOf (c .next .next))))
+        × (r .counts ≡ oneMore (c .counts) raw results (c .next .cells)) ⌝ }
 {
-    let next = t.next;
-    Tabled { next, raw, results }
+    let t = c.next;
+    let n = c.counts;
+    let w = t.next;
+    Tabled {
+        next: table_from(s, on, w),
+        counts: Counts {
+            tables: n.tables + 1,
+            raw,
+            results,
+            aligned: n.aligned + t.cells as usize,
+        },
+    }
 }
 
-// The first n tables: their raw events and their result events, each as far as there are slots, and the number of result events.
-pub fn write_tables(s: &[u8], on: bool, n: usize, raw: &mut [Event], results: &mut [Event]) -> usize
-    requires { ⌜ Due (now s) on n ⌝ }
-    ensures { λ r. ⌜ (r ≡ length (resolvedOf (take n (tables kindOf on (now (s .entry))))))
-        × ((now (raw .exit) ≡ wrote 0 (rawOf (take n (tables kindOf on (now (s .entry))))) (now (raw .entry)))
-        × (now (results .exit) ≡ wrote 0 (resolvedOf (take n (tables kindOf on (now (s .entry))))) (now (results .entry)))) ⌝ }
+// The alignments of the next table, into the slots behind those before it.
+pub fn align_table(s: &[u8], c: Tabled, slots: &mut [u8])
+    requires { ⌜ (length (now s) ≤ 65536) × (c .next .delimiter ≤ length (now s)) × (c .next .cells ≡ length (alignmentsAt (now s) (c .next .delimiter))) × (c .counts .aligned + c .next .cells < 1000000000000) ⌝ }
+    ensures { λ _. ⌜ now (slots .exit) ≡ filledIf (c .counts .aligned) (alignmentsAt (now (s .entry)) (c .next .delimiter)) (now (slots .entry)) ⌝ }
 {
-    let mut cur = first_line();
-    let mut i = 0;
-    while i < n {
-        let t = table_from(s, on, cur.next);
-        let a = raw_table(s, t.line, t.at, t.stop, raw, cur.raw);
-        let b = result_table(s, t.line, t.at, t.stop, results, cur.results);
-        cur = behind_table(t, a.slot, b.slot);
-        i += 1;
+    let t = c.next;
+    let n = c.counts;
+    align_from(s, t.delimiter as usize, t.cells as usize, slots, n.aligned);
+}
+
+// All tables: their raw events, their result events and their alignments, each as far as there are slots, and how many there are.
+pub fn write_tables(
+    s: &[u8],
+    on: bool,
+    raw: &mut [Event],
+    results: &mut [Event],
+    alignments: &mut [u8],
+) -> Counts
+    ensures { λ r. ⌜ (r ≡ countsOf (tablesRead (now (s .entry)) on))
+        × ((now (raw .exit) ≡ wrote 0 (rawOf (tablesRead (now (s .entry)) on)) (now (raw .entry)))
+        × ((now (results .exit) ≡ wrote 0 (resolvedOf (tablesRead (now (s .entry)) on)) (now (results .entry)))
+        × (now (alignments .exit) ≡ alignedFrom 0 (tablesRead (now (s .entry)) on) (now (alignments .entry))))) ⌝ }
+{
+    let mut cur = first_table(s, on);
+    while cur.next.found {
+        let a = raw_table(
+            s,
+            cur.next.line,
+            cur.next.at,
+            cur.next.stop,
+            raw,
+            cur.counts.raw,
+        );
+        let b = result_table(
+            s,
+            cur.next.line,
+            cur.next.at,
+            cur.next.stop,
+            results,
+            cur.counts.results,
+        );
+        align_table(s, cur, alignments);
+        let next = next_table(s, on, cur, a.slot, b.slot);
+        cur = next;
     }
-    cur.results
+    cur.counts
 }

@@ -4,17 +4,14 @@ use borrow.Author.Needs.{needs}
 use Rattle.sheet.proofs.align.align_line.Statement.{statement}
 use Rattle.sheet.proofs.align.align_line.Tie as tie
 
-cast-values-from : tie.Need-cast-values-from
-cast-values-from c = search needs
-
 values-from-requires : tie.Need-values-from-requires
-values-from-requires c κs = let h = c .before .before .before .pre .0 in (h .short, h .within)
+values-from-requires c κs = search needs
 
 align-rest-requires : tie.Need-align-rest-requires
 align-rest-requires c κs =
-    let a = c .before .before .before .before .before in
+    let a = c .before .before .before .before in
     let v = c .before .values-from .ensures in
-    (a .pre .0 .short, v .0, rw (v .1) (a .pre .1))
+    (a .pre .0, v .0, rw (v .1) (a .pre .2))
 
 same-length : tie.Need-same-length
 same-length c = search needs
@@ -23,4 +20,4 @@ returns : tie.Need-returns
 returns c = rw (c .before .before .before .before .values-from .ensures .1) at (c .before .before .align-rest .ensures)
 
 pub align-line-spec : {M : Type 1} → statement M
-align-line-spec = tie.close (tie.spec cast-values-from values-from-requires align-rest-requires same-length returns)
+align-line-spec = tie.close (tie.spec values-from-requires align-rest-requires same-length returns)

@@ -56,7 +56,6 @@ returns c =
     (record {
       stop = ap (λ (x : Point). x .index) (sym (last-end s (l .q) e) ∙ l .inv .2);
       at = record { inside = record { short = i .short; within = i .within; narrow = omega arith; lined = i .lined; flat = refl }; first = refl };
-      beyond = omega arith;
       tables = λ on. sym (l .inv .3 on) ∙ rows-last s (l .q) e on ∙ sym (heads-last s (startOf (record { line = l .q .line; at = l .q .index + length (restOf s (l .q)) })) on (stop-end s (l .q) ∙ e));
     })
 
@@ -91,7 +90,6 @@ returns-2 c =
     (record {
       stop = ap (λ (x : Point). x .index) (sym (last-blank s (l .q) (m .1) b) ∙ l .inv .2);
       at = after-line s (l .q) (m .1) (l .inv .0);
-      beyond = omega arith;
       tables = λ on. sym (l .inv .3 on) ∙ rows-blank s (l .q) (m .1) b on;
     })
 

@@ -1,15 +1,10 @@
 -- `spans::table_from` meets its contract.
 -- Assumes nothing.
-use Prim.Native.Nat.{ℕ}
-use mathlib.Core.Path.{_≡_, ap, sym, _∙_}
-use mathlib.Core.List.{_∷_}
-use native.Mathlib.Omega.{arith}
 use borrow.Author.Needs.{needs}
-use lib.ListN.{length}
 use denote.Ref.{now}
 use Rattle.sheet.specs.From.{Opens}
 use Rattle.sheet.specs.Spans.{startOf}
-use Rattle.sheet.proofs.LastRow.{spans-of, opened-body}
+use Rattle.sheet.proofs.LastRow.{comes-of, opened-body}
 use Rattle.sheet.proofs.spans.table_from.Statement.{statement}
 use Rattle.sheet.proofs.spans.table_from.Tie as tie
 
@@ -33,12 +28,10 @@ body-end-requires : tie.Need-body-end-requires
 body-end-requires c κs = opened-body _ _ _ _ _ (opened (c .before .before .before))
 
 returns : tie.Need-returns
-returns c f fs e =
-    let h = rw (c .enum-told .given .1) at (c .before .before .next-head .ensures) in
-    absurd (let z : _≡_ {A = ℕ} 0 (length (f ∷ fs)) = ap length (sym h ∙ e) in omega arith)
+returns c = rw (rw (c .enum-told .given .1) at (c .before .before .next-head .ensures))
 
 returns-2 : tie.Need-returns-2
-returns-2 c = spans-of _ _ _ _ _ _ (opened (c .before .before .before .before .before)) (c .before .body-end .ensures)
+returns-2 c = comes-of _ _ _ _ _ _ (opened (c .before .before .before .before .before)) (c .before .body-end .ensures)
 
 pub table-from-spec : {M : Type 1} → statement M
 table-from-spec =
