@@ -1,24 +1,20 @@
 -- The crate's types as walks have them: of each its row, its MIR type and its `Data`, and of a struct that its fields are known if it is.
 -- Assumes nothing.
-use mathlib.Core.List.{[], _∷_}
-use mir.Syntax.{Ty, w8, w16, w32, w64}
+use mir.Syntax.{Ty, w32, w64}
 use denote.RattleType.{RattleType}
 use denote.Laws.{Is}
 use denote.Struct.Laws as LL
 use denote.Builtin.{u32, usize}
-use Rattle.tokenizer.proofs.Data.{Data, data-of, enum-data-of, uint-data, bool-data, vals}
+use Rattle.tokenizer.proofs.Data.{Data, data-of, enum-data-of, uint-data, vals}
 use Rattle.tokenizer.proofs.Types.{Ev, ev}
 use Rattle.gfm_table.specs.declared.stream.Stepped.{Stepped}
 use Rattle.gfm_table.specs.declared.calls.HeadPlan.{HeadPlan}
 use Rattle.gfm_table.specs.declared.calls.RowPlan.{RowPlan}
-use Rattle.gfm_table.specs.declared.rows.Placed.{Placed}
-use Rattle.gfm_table.specs.declared.rows.Spot.{Spot}
+use Rattle.gfm_table.specs.declared.rows.Reached.{Reached}
 use Rattle.gfm_table.proofs.stream.Part as Part
 use Rattle.gfm_table.proofs.stream.Part.Laws as Part′
 use Rattle.gfm_table.proofs.rows.Placed as Placed
 use Rattle.gfm_table.proofs.rows.Placed.Laws as Placed′
-use Rattle.gfm_table.proofs.rows.Spot as Spot
-use Rattle.gfm_table.proofs.rows.Spot.Laws as Spot′
 use Rattle.gfm_table.proofs.rows.Reached as Reached
 use Rattle.gfm_table.proofs.rows.Reached.Laws as Reached′
 use Rattle.gfm_table.proofs.stream.Cursor as Cursor
@@ -106,15 +102,6 @@ pl-ty = Placed′.mir
 abbrev pub pl : Data Pl
 pl = data-of Placed.the-type Placed′.the-laws Placed′.the-copy Placed′.the-plain
 
-abbrev pub Sp : RattleType
-Sp = Spot.the-row
-
-abbrev pub sp-ty : Ty
-sp-ty = Spot′.mir
-
-abbrev pub sp : Data Sp
-sp = data-of Spot.the-type Spot′.the-laws Spot′.the-copy Spot′.the-plain
-
 abbrev pub Rd : RattleType
 Rd = Reached.the-row
 
@@ -124,19 +111,15 @@ rd-ty = Reached′.mir
 abbrev pub rd : Data Rd
 rd = data-of Reached.the-type Reached′.the-laws Reached′.the-copy Reached′.the-plain
 
--- the fields of a value of `Placed`
-pub pl-end : (z : Placed) → Is Pl z (vals pl z) → Is u32 (z .end) (vals (uint-data w32) (z .end))
-pl-end z is = LL.owed Placed.the-type Placed′.the-laws z (vals pl z) is .1 .0
+-- the fields of a value of `Reached`
+pub rd-at : (z : Reached) → Is Rd z (vals rd z) → Is u32 (z .at) (vals (uint-data w32) (z .at))
+rd-at z is = LL.owed Reached.the-type Reached′.the-laws z (vals rd z) is .0
 
--- the fields of a value of `Spot`
-pub sp-at : (z : Spot) → Is Sp z (vals sp z) → Is u32 (z .at) (vals (uint-data w32) (z .at))
-sp-at z is = LL.owed Spot.the-type Spot′.the-laws z (vals sp z) is .1 .0
+pub rd-column : (z : Reached) → Is Rd z (vals rd z) → Is u32 (z .column) (vals (uint-data w32) (z .column))
+rd-column z is = LL.owed Reached.the-type Reached′.the-laws z (vals rd z) is .1 .0
 
-pub sp-next : (z : Spot) → Is Sp z (vals sp z) → Is Pl (z .next) (vals pl (z .next))
-sp-next z is = LL.owed Spot.the-type Spot′.the-laws z (vals sp z) is .1 .1 .1 .0
-
-pub sp-slot : (z : Spot) → Is Sp z (vals sp z) → Is usize (z .slot) (vals (uint-data w64) (z .slot))
-sp-slot z is = LL.owed Spot.the-type Spot′.the-laws z (vals sp z) is .1 .1 .1 .1 .0
+pub rd-slot : (z : Reached) → Is Rd z (vals rd z) → Is usize (z .slot) (vals (uint-data w64) (z .slot))
+rd-slot z is = LL.owed Reached.the-type Reached′.the-laws z (vals rd z) is .1 .1 .0
 
 -- the fields of a value of `Stepped`
 pub st-event : (z : Stepped) → Is St z (vals st z) → Is Ev (z .event) (vals ev (z .event))

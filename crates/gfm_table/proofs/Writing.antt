@@ -2,8 +2,7 @@
 -- Assumes nothing.
 use Prim.Native.Nat.{ℕ, _+_, _*_, _≤_, _<_}
 use mathlib.Core.Path.{_≡_, refl, ap, sym, _∙_}
-use mathlib.Core.List.{List, [], _∷_}
-use native.Mathlib.Nat.{add-zero}
+use mathlib.Core.List.{List, _∷_}
 use native.Mathlib.Omega.{arith}
 use lib.ListN.{length, drop, set}
 use Rattle.tokenizer.specs.declared.event.Point.{Point}
@@ -11,35 +10,36 @@ use Rattle.tokenizer.specs.declared.event.Event.{Event}
 use Rattle.tokenizer.specs.Points.{past}
 use Rattle.tokenizer.specs.Events.{enter, leave}
 use Rattle.tokenizer.specs.Slots.{wrote}
+use Rattle.tokenizer.specs.Lines.{lineBody}
 use Rattle.tokenizer.specs.Moves.{restOf, Inside}
 use Rattle.tokenizer.proofs.Ahead.{past-none}
 use Rattle.tokenizer.proofs.Writing.{wrote-none, wrote-more}
 use Rattle.gfm_table.specs.declared.stream.Part.{Part}
-use Rattle.gfm_table.specs.declared.rows.Spot.{Spot}
+use Rattle.gfm_table.specs.declared.rows.Placed.{Placed}
 use Rattle.gfm_table.specs.declared.rows.Reached.{Reached}
 use Rattle.gfm_table.specs.Rows.{Piece, passed, allBoth}
 use Rattle.gfm_table.specs.Stream.{piecesOf}
-use Rattle.gfm_table.specs.Places.{pointIn, nextAt, spotAt, rowEnd, rowWrote}
+use Rattle.gfm_table.specs.Places.{pointIn, nextAt, rowEnd, rowWrote}
 use Rattle.gfm_table.proofs.Coming.{no-pieces, Piecing, Next, none, some, next-piece}
 
 module _ (s : List ℕ) (t : Part) (l : ℕ) where
-  -- the point that the writing has come to, and what is written there
+  -- the point that the writing has come to, and the next piece there
   abbrev pub pointAt : Reached → Point
   pointAt a = pointIn l (a .at) (a .column)
 
-  abbrev pub spotOf : Reached → Spot
-  spotOf a = spotAt s t l (a .at) (a .column) (a .slot)
+  abbrev pub nextOf : Reached → Placed
+  nextOf a = nextAt (a .at) (a .column) (piecesOf t (lineBody (drop (a .at) s)))
 
-  -- the two events of the next piece
+  -- its two events
   abbrev pub entryOf : Reached → Event
-  entryOf a = enter (spotOf a .next .name) (pointAt a)
+  entryOf a = enter (nextOf a .name) (pointAt a)
 
   abbrev pub exitOf : Reached → Event
-  exitOf a = leave (spotOf a .next .name) (pointIn l (spotOf a .next .end) (spotOf a .next .column))
+  exitOf a = leave (nextOf a .name) (pointIn l (nextOf a .end) (nextOf a .column))
 
-  -- after the next piece
+  -- behind it
   abbrev pub onward : Reached → Reached
-  onward a = record { at = spotOf a .next .end; column = spotOf a .next .column; slot = a .slot + 2 }
+  onward a = record { at = nextOf a .end; column = nextOf a .column; slot = a .slot + 2 }
 
   -- where the pieces end, and what all slots are then
   abbrev pub makes : Reached → List Event → Reached × List Event
@@ -73,15 +73,16 @@ module _ (s : List ℕ) (t : Part) (l : ℕ) where
         long = rw (f .pieces) (omega (arith, f .long));
       }
 
-  pub goes : (a : Reached) → Good a → a .at < spotOf a .next .end → Goes a
+  -- before the end of the line
+  pub goes : (a : Reached) → Good a → a .at < rowEnd s t (pointAt a) (a .slot) .at → Goes a
   goes a h l = go (next-piece s (pointAt a) (h .0) t)
     where
       go : Next s t (pointAt a) → Goes a
-      go (none e) = absurd (let q = ap (λ (xs : List Piece). nextAt (a .at) (a .column) xs .end) (ap (piecesOf t) e ∙ no-pieces t) in omega (arith, q, l))
+      go (none e) = absurd (omega (arith, ap length e, l))
       go (some f) = goes-piece a h f
 
-  -- none is left
-  pub stops : (a : Reached) (zs : List Event) → Good a → spotOf a .next .end ≤ a .at → makes a zs ≡ (a, zs)
+  -- at its end none is left
+  pub stops : (a : Reached) (zs : List Event) → Good a → rowEnd s t (pointAt a) (a .slot) .at ≤ a .at → makes a zs ≡ (a, zs)
   unfolding allBoth passed
   stops a zs h l = go (next-piece s (pointAt a) (h .0) t)
     where
@@ -93,4 +94,4 @@ module _ (s : List ℕ) (t : Part) (l : ℕ) where
           let k : a .slot + 2 * length (piecesOf t (restOf s p)) ≡ a .slot = omega (arith, ap length n) in
           let w : rowWrote s t p (a .slot) zs ≡ zs = ap (λ (xs : List Piece). wrote (a .slot) (allBoth (passed p xs)) zs) n ∙ wrote-none (a .slot) zs in
           λ i. (record { at = q i .index; column = q i .column; slot = k i }, w i)
-      go (some f) = absurd (let q = ap (λ (xs : List Piece). nextAt (a .at) (a .column) xs .end) (f .pieces) in omega (arith, q, l, f .long))
+      go (some f) = absurd (omega (arith, ap (λ (q : Point). q .index) (f .line), l, f .long))

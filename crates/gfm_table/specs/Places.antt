@@ -1,16 +1,14 @@
 -- The pieces of a row by the places of its bytes, and their events written to slots.
 use Prim.Native.Nat.{ℕ, _+_, _*_}
 use mathlib.Core.List.{List, [], _∷_}
-use lib.ListN.{length, drop}
+use lib.ListN.{length}
 use Rattle.tokenizer.specs.declared.event.Point.{Point}
 use Rattle.tokenizer.specs.declared.event.Event.{Event}
 use Rattle.tokenizer.specs.Points.{columnPast, past}
 use Rattle.tokenizer.specs.Slots.{wrote}
-use Rattle.tokenizer.specs.Lines.{lineBody}
 use Rattle.tokenizer.specs.Moves.{restOf}
 use Rattle.gfm_table.specs.declared.stream.Part.{Part}
 use Rattle.gfm_table.specs.declared.rows.Placed.{Placed}
-use Rattle.gfm_table.specs.declared.rows.Spot.{Spot}
 use Rattle.gfm_table.specs.declared.rows.Reached.{Reached}
 use Rattle.gfm_table.specs.Rows.{Piece, passed, allBoth}
 use Rattle.gfm_table.specs.Stream.{piecesOf}
@@ -27,10 +25,6 @@ placed n i c t = record { name = n; end = i + length t; column = columnPast c t 
 abbrev pub nextAt : ℕ → ℕ → List Piece → Placed
 nextAt i c [] = record { name = 0; end = i; column = c }
 nextAt i c (x ∷ xs) = placed (x .name) i c (x .text)
-
--- the writing of a row at a place of its line, in the slot k
-abbrev pub spotAt : List ℕ → Part → ℕ → ℕ → ℕ → ℕ → Spot
-spotAt s t l i c k = record { line = l; at = i; column = c; next = nextAt i c (piecesOf t (lineBody (drop i s))); slot = k }
 
 -- where the pieces of a row end that are written from a point on, from the slot k on
 abbrev pub rowEnd : List ℕ → Part → Point → ℕ → Reached

@@ -5,6 +5,7 @@ use crate::stream::Part;
 use tokenizer::event::Event;
 use tokenizer::event::Name;
 use tokenizer::event::Point;
+use tokenizer::lines::line_stop;
 use tokenizer::moves::kind_at;
 use tokenizer::slots::put;
 ghost use mathlib.Core.Path.{_≡_};
@@ -16,7 +17,7 @@ ghost use Rattle.tokenizer.specs.Events.{SpaceOrTab, enter, leave};
 ghost use Rattle.tokenizer.specs.Lines.{lineBody, indent};
 ghost use Rattle.tokenizer.specs.Moves.{Inside};
 ghost use Rattle.gfm_table.specs.Stream.{piecesOf};
-ghost use Rattle.gfm_table.specs.Places.{pointIn, placed, nextAt, spotAt, rowEnd, rowWrote};
+ghost use Rattle.gfm_table.specs.Places.{pointIn, placed, nextAt, rowEnd, rowWrote};
 ghost use Rattle.gfm_table.specs.declared.stream.Part.the-variants.{Delimiter, Body};
 
 // The next piece of a row: its name, 0 at the row's end, where it ends, and the column there.
@@ -111,60 +112,45 @@ pub fn next_at(s: &[u8], part: Part, at: u32, column: u32) -> Placed
     ensures { λ r. ⌜ r ≡ nextAt at column (piecesOf part (lineBody (drop at (now (s .entry))))) ⌝ }
 {
     match part {
-        Part::Head => text_at(s, at, column),
         Part::Delimiter => marks_at(s, at, column),
-        Part::Body => text_at(s, at, column),
+        Part::Head | Part::Body => text_at(s, at, column),
     }
 }
 
-// Where the writing of a row's pieces stands: its line, the place and the column there, the next piece, and the slot of its entry.
-pub struct Spot {
-    pub line: u32,
-    pub at: u32,
-    pub column: u32,
-    pub next: Placed,
-    pub slot: usize,
-}
-
-// Where a row's pieces end: the place, the column there, and the slot after their events.
+// Where the writing of a row's pieces stands: the place, the column there, and the slot of the next event.
 pub struct Reached {
     pub at: u32,
     pub column: u32,
     pub slot: usize,
 }
 
-// The writing at a place of a row.
-pub fn spot_at(s: &[u8], part: Part, line: u32, at: u32, column: u32, slot: usize) -> Spot
-    requires { ⌜ (length (now s) ≤ 65536) × (at ≤ length (now s)) × (column ≤ 4 * at + 1) ⌝ }
-    ensures { λ r. ⌜ r ≡ spotAt (now (s .entry)) part line at column slot ⌝ }
+// Where the bytes of a row end.
+pub fn row_stop(s: &[u8], at: u32) -> u32
+    requires { ⌜ (length (now s) ≤ 65536) × (at ≤ length (now s)) ⌝ }
+    ensures { λ r. ⌜ r ≡ at + length (lineBody (drop at (now (s .entry)))) ⌝ }
 {
-    Spot {
-        line,
+    line_stop(s, at as usize) as u32
+}
+
+// Before the first piece.
+pub fn row_start(at: u32, slot: usize) -> Reached
+    ensures { λ r. ⌜ r ≡ record { at = at; column = 1; slot = slot } ⌝ }
+{
+    Reached {
         at,
-        column,
-        next: next_at(s, part, at, column),
+        column: 1,
         slot,
     }
 }
 
-// The same behind the next piece.
-pub fn spot_after(s: &[u8], part: Part, x: Spot) -> Spot
-    requires { ⌜ (length (now s) ≤ 65536) × (x .next .end ≤ length (now s)) × (x .next .column ≤ 4 * x .next .end + 1) × (x .slot < 1000000000000) ⌝ }
-    ensures { λ r. ⌜ r ≡ spotAt (now (s .entry)) part (x .line) (x .next .end) (x .next .column) (x .slot + 2) ⌝ }
+// A piece is entered.
+pub fn entry_of(line: u32, x: Reached, p: Placed) -> Event
+    ensures { λ r. ⌜ r ≡ enter (p .name) (pointIn line (x .at) (x .column)) ⌝ }
 {
-    let p = x.next;
-    spot_at(s, part, x.line, p.end, p.column, x.slot + 2)
-}
-
-// The next piece is entered.
-pub fn entry_of(x: Spot) -> Event
-    ensures { λ r. ⌜ r ≡ enter (x .next .name) (pointIn (x .line) (x .at) (x .column)) ⌝ }
-{
-    let p = x.next;
     Event::enter(
         p.name,
         Point {
-            line: x.line,
+            line,
             column: x.column,
             index: x.at,
             vs: 0,
@@ -172,15 +158,14 @@ pub fn entry_of(x: Spot) -> Event
     )
 }
 
-// The next piece is left.
-pub fn exit_of(x: Spot) -> Event
-    ensures { λ r. ⌜ r ≡ leave (x .next .name) (pointIn (x .line) (x .next .end) (x .next .column)) ⌝ }
+// It is left.
+pub fn exit_of(line: u32, p: Placed) -> Event
+    ensures { λ r. ⌜ r ≡ leave (p .name) (pointIn line (p .end) (p .column)) ⌝ }
 {
-    let p = x.next;
     Event::exit(
         p.name,
         Point {
-            line: x.line,
+            line,
             column: p.column,
             index: p.end,
             vs: 0,
@@ -188,22 +173,23 @@ pub fn exit_of(x: Spot) -> Event
     )
 }
 
-// The slot of the next piece's exit.
-pub fn exit_slot(x: Spot) -> usize
+// The slot of its exit.
+pub fn exit_slot(x: Reached) -> usize
     requires { ⌜ x .slot < 1000000000000 ⌝ }
     ensures { λ r. ⌜ r ≡ x .slot + 1 ⌝ }
 {
     x.slot + 1
 }
 
-// Where the writing has come to.
-pub fn reached_at(x: Spot) -> Reached
-    ensures { λ r. ⌜ r ≡ record { at = x .at; column = x .column; slot = x .slot } ⌝ }
+// Behind it.
+pub fn row_after(x: Reached, p: Placed) -> Reached
+    requires { ⌜ x .slot < 1000000000000 ⌝ }
+    ensures { λ r. ⌜ r ≡ record { at = p .end; column = p .column; slot = x .slot + 2 } ⌝ }
 {
     Reached {
-        at: x.at,
-        column: x.column,
-        slot: x.slot,
+        at: p.end,
+        column: p.column,
+        slot: x.slot + 2,
     }
 }
 
@@ -219,11 +205,13 @@ pub fn write_row(
     requires { ⌜ Inside (now s) (pointIn line from 1) × (to ≤ 4294967296) ⌝ }
     ensures { λ r. ⌜ (r ≡ rowEnd (now (s .entry)) part (pointIn line from 1) to) × (now (slots .exit) ≡ rowWrote (now (s .entry)) part (pointIn line from 1) to (now (slots .entry))) ⌝ }
 {
-    let mut x = spot_at(s, part, line, from, 1, to);
-    while x.at < x.next.end {
-        put(slots, x.slot, entry_of(x));
-        put(slots, exit_slot(x), exit_of(x));
-        x = spot_after(s, part, x);
+    let end = row_stop(s, from);
+    let mut x = row_start(from, to);
+    while x.at < end {
+        let p = next_at(s, part, x.at, x.column);
+        put(slots, x.slot, entry_of(line, x, p));
+        put(slots, exit_slot(x), exit_of(line, p));
+        x = row_after(x, p);
     }
-    reached_at(x)
+    x
 }
