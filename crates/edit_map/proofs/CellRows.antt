@@ -41,7 +41,7 @@ use Rattle.edit_map.proofs.Cells.{enters, row-ends, marks-end}
 use Rattle.edit_map.proofs.Spans.{text-ahead, spaceNext, Goes, goes-none, goes-ends, next}
 use Rattle.edit_map.proofs.CellTurns.{first-named, is-data, row-at, marks-at}
 use Rattle.edit_map.proofs.Bools.{either, and-false, and-true}
-use Rattle.edit_map.proofs.RawRows.{Named, rows-named, delimiters-named}
+use Rattle.edit_map.proofs.RawRows.{Named, named, rows-named, delimiters-named}
 
 -- ## The slots of a step
 
@@ -263,12 +263,65 @@ module _ (l i c k n : ℕ) (j e : ℕ) (o seen waits m : Bool) where
   mark-events true false h = ap (λ (b : Bool). markTurn GfmTableDelimiterCell o b (not m) (enter n (pointIn l i c)) (leave n (pointIn l j e))) (and-true waits)
   mark-events false false h = ap (λ (b : Bool). markTurn GfmTableDelimiterCell o b false (enter n (pointIn l i c)) (leave n (pointIn l j e))) (and-false waits)
 
+  -- in a row whose texts are data, each is entered and left by its step
+  text-plain : (t d : Bool) → t ≡ d → step t d ≡ record { at = i; column = c; slot = k; name = n; link = cond d 1 0; opens = o; enters = d; leaves = d; end = j; stop = e; seen = seen || not (eqb n SpaceOrTab); waits = o || (waits && not d) }
+  text-plain true true h = refl
+  text-plain true false h = absurd (true≢false h)
+  text-plain false true h = absurd (true≢false (sym h))
+  text-plain false false h = refl
+
+  -- in a row without data
+  mark-plain : (t d : Bool) → d ≡ false → step t d ≡ record { at = i; column = c; slot = k; name = n; link = 0; opens = o; enters = t && waits; leaves = t && not (t && m); end = j; stop = e; seen = seen || not (eqb n SpaceOrTab); waits = o || (waits && not t) }
+  mark-plain t true h = absurd (true≢false h)
+  mark-plain true false h = refl
+  mark-plain false false h = refl
+
 -- no piece of a delimiter row is data
 not-data : (n : ℕ) → delimiterPiece n ≡ true → eqb n Data ≡ false
 not-data n =
     either (eqb n 1 || eqb n 10) (eqb n 12 || eqb n 15) (either (eqb n 1) (eqb n 10) (λ z. rw (eqb-true n 1 z)) (λ z. rw (eqb-true n 10 z))) (either (eqb n 12) (eqb n 15) (λ z. rw (eqb-true n 12 z)) (λ z. rw (eqb-true n 15 z)))
 
 -- ## One step
+
+-- the name of the next piece of a head line or a body row: a text's only if it is data
+next-text : (i c : ℕ) {ps : List Piece} → Named rowPiece ps → let n = nextAt i c ps .name in isTextName n ≡ eqb n Data
+next-text i c Named.none = refl
+next-text i c (named {x = x} h hs) = is-data (x .name) h
+
+-- that of a delimiter row: never data
+next-mark : (i c : ℕ) {ps : List Piece} → Named delimiterPiece ps → eqb (nextAt i c ps .name) Data ≡ false
+next-mark i c Named.none = refl
+next-mark i c (named {x = x} h hs) = not-data (x .name) h
+
+-- the step over the next piece of a head line or a body row
+pub text-step : (s : List ℕ) (w : Within)
+    → let x = nextAt (w .at) (w .column) (piecesOf Body (lineBody (drop (w .at) s))) in
+    let y = reachOf s x in
+    let o = opensAt s (w .seen) (x .name) (x .end) in
+    let d = eqb (x .name) Data in
+    stepOf s Body w ≡ record { at = w .at; column = w .column; slot = w .slot; name = x .name; link = cond d 1 0; opens = o; enters = d; leaves = d; end = y .end; stop = y .column; seen = w .seen || not (eqb (x .name) SpaceOrTab); waits = o || (w .waits && not d) }
+unfolding stepOf
+text-step s w =
+    let x = nextAt (w .at) (w .column) (piecesOf Body (lineBody (drop (w .at) s))) in
+    let y = reachOf s x in
+    text-plain 0 (w .at) (w .column) (w .slot) (x .name) (y .end) (y .column) (opensAt s (w .seen) (x .name) (x .end)) (w .seen) (w .waits) (textNext (lineBody (drop (x .end) s))) (isTextName (x .name)) (eqb (x .name) Data)
+    (next-text (w .at) (w .column) (rows-named kindOf false (lineBody (drop (w .at) s))))
+
+-- that over the next piece of a delimiter row
+pub mark-step : (s : List ℕ) (w : Within)
+    → let x = nextAt (w .at) (w .column) (piecesOf Delimiter (lineBody (drop (w .at) s))) in
+    let o = opensAt s (w .seen) (x .name) (x .end) in
+    let t = isTextName (x .name) in
+    stepOf s Delimiter w ≡ record { at = w .at; column = w .column; slot = w .slot; name = x .name; link = 0; opens = o; enters = t && w .waits; leaves = t && not (t && textNext (lineBody (drop (x .end) s))); end = x .end; stop = x .column; seen = w .seen || not (eqb (x .name) SpaceOrTab); waits = o || (w .waits && not t) }
+unfolding stepOf
+mark-step s w =
+    let x = nextAt (w .at) (w .column) (piecesOf Delimiter (lineBody (drop (w .at) s))) in
+    let o = opensAt s (w .seen) (x .name) (x .end) in
+    let m = textNext (lineBody (drop (x .end) s)) in
+    let d = next-mark (w .at) (w .column) (delimiters-named kindOf (lineBody (drop (w .at) s))) in
+    let y : reachOf s x ≡ x = ap (λ (b : Bool). cond b (record { name = x .name; end = textLeft s x .index; column = textLeft s x .column }) x) d in
+    ap (stepFrom w x o ((isTextName (x .name) && not (eqb (x .name) Data)) && m)) y
+    ∙ mark-plain 0 (w .at) (w .column) (w .slot) (x .name) (x .end) (x .column) o (w .seen) (w .waits) m (isTextName (x .name)) (eqb (x .name) Data) d
 
 -- the step over a piece that stands first
 step-is : (s : List ℕ) (part : Part) (w : Within) {n : ℕ} {u : List ℕ} {ps : List Piece} → piecesOf part (lineBody (drop (w .at) s)) ≡ record { name = n; text = u } ∷ ps
@@ -277,19 +330,10 @@ step-is : (s : List ℕ) (part : Part) (w : Within) {n : ℕ} {u : List ℕ} {ps
 unfolding stepOf
 step-is s part w e = rw e
 
--- no piece is left
-step-none : (s : List ℕ) (part : Part) (w : Within) → piecesOf part (lineBody (drop (w .at) s)) ≡ [] → stepOf s part w .end ≡ w .at
-unfolding stepOf
-step-none s part w e = rw e
-
--- where a step starts
+-- the first slot of a step
 pub step-slot : (s : List ℕ) (part : Part) (w : Within) → stepOf s part w .slot ≡ w .slot
 unfolding stepOf
 step-slot s part w = refl
-
-step-place : (s : List ℕ) (part : Part) (w : Within) → stepOf s part w .at ≡ w .at
-unfolding stepOf
-step-place s part w = refl
 
 module _ (s : List ℕ) (part : Part) (l : ℕ) where
   abbrev pub pointAt : Within → Point
@@ -430,18 +474,19 @@ module _ (s : List ℕ) (part : Part) (l : ℕ) where
         long = m .long;
       }
 
-  pub goes : (w : Within) → Good s part l w → stepOf s part w .at < stepOf s part w .end → Onward w
-  goes w h g = go (next-piece s (pointAt s part l w) (h .0) part)
+  -- something is left of the line, and a step goes on
+  pub goes : (w : Within) (end : ℕ) → Good s part l w → end ≡ endAt s part l w .index → w .at < end → Onward w
+  goes w end h q g = go (next-piece s (pointAt s part l w) (h .0) part)
     where
       go : Next s part (pointAt s part l w) → Onward w
-      go (none e) = absurd (omega (arith, step-none s part w (ap (piecesOf part) e ∙ no-pieces part), step-place s part w, g))
+      go (none e) = absurd (omega (arith, ap length e, q, g))
       go (some {n = n} {u = u} f) = onward w h (moves s l w n u part f)
 
-  -- none is left, and the last cell is left
-  pub stops : (w : Within) (zs : List Event) → Good s part l w → stepOf s part w .end ≤ stepOf s part w .at
-      → let x = stepOf s part w in makes s part l w zs ≡ (record { at = x .at; column = x .column; slot = x .slot + 1 }, set zs (x .slot) (leave (cellOf part) (startOf l x)))
-  unfolding stepOf passed
-  stops w zs h g = go (next-piece s (pointAt s part l w) (h .0) part)
+  -- nothing is left, and the last cell is left
+  pub stops : (w : Within) (end : ℕ) (zs : List Event) → Good s part l w → end ≡ endAt s part l w .index → end ≤ w .at
+      → makes s part l w zs ≡ (record { at = w .at; column = w .column; slot = w .slot + 1 }, set zs (w .slot) (leave (cellOf part) (pointAt s part l w)))
+  unfolding passed
+  stops w end zs h d g = go (next-piece s (pointAt s part l w) (h .0) part)
     where
       go : Next s part (pointAt s part l w) → makes s part l w zs ≡ (record { at = w .at; column = w .column; slot = w .slot + 1 }, set zs (w .slot) (leave (cellOf part) (pointAt s part l w)))
       go (none e) =
@@ -452,7 +497,7 @@ module _ (s : List ℕ) (part : Part) (l : ℕ) where
           ap (λ (ps : List Piece). tailIn part (past p (restOf s p)) (w .waits) (w .seen) (passed p ps)) n ∙ tail-ends part (past p (restOf s p)) (w .waits) (w .seen) ∙ ap (λ (z : Point). leave (cellOf part) z ∷ []) r in
           let a : wrote (w .slot) (leftAt s part l w) zs ≡ set zs (w .slot) (leave (cellOf part) p) = ap (λ (es : List Event). wrote (w .slot) es zs) q ∙ wrote-one (w .slot) (leave (cellOf part) p) zs in
           λ j. (record { at = r j .index; column = r j .column; slot = w .slot + length (q j) }, a j)
-      go (some {n = n} {u = u} f) = absurd (let m = moves s l w n u part f .long in omega (arith, m, g))
+      go (some f) = absurd (omega (arith, f .long, ap (λ (z : Point). z .index) (f .line), d, g))
 
   -- the first cell is entered
   pub opening : (from k : ℕ) (ys : List Event) → Inside s (pointIn l from 1)

@@ -1,17 +1,28 @@
 -- The types of a row's cells as walks have them: of each its row, its MIR type and its `Data`, and of a struct that its fields are known if it is.
 -- Assumes nothing.
-use mir.Syntax.{Ty, w32, w64}
+use mir.Syntax.{Ty, w64}
 use denote.RattleType.{RattleType}
 use denote.Laws.{Is}
 use denote.Struct.Laws as LL
-use denote.Builtin.{u32, usize}
+use denote.Builtin.{usize}
 use Rattle.tokenizer.proofs.Data.{Data, data-of, uint-data, vals}
-use Rattle.edit_map.specs.declared.cell_steps.Step.{Step}
+use Rattle.edit_map.specs.declared.cell_steps.Within.{Within}
 use Rattle.edit_map.specs.declared.cell_steps.Slots.{Slots}
+use Rattle.edit_map.proofs.cell_steps.Within as Within
+use Rattle.edit_map.proofs.cell_steps.Within.Laws as Within′
 use Rattle.edit_map.proofs.cell_steps.Step as Step
 use Rattle.edit_map.proofs.cell_steps.Step.Laws as Step′
 use Rattle.edit_map.proofs.cell_steps.Slots as Slots
 use Rattle.edit_map.proofs.cell_steps.Slots.Laws as Slots′
+
+abbrev pub Wi : RattleType
+Wi = Within.the-row
+
+abbrev pub wi-ty : Ty
+wi-ty = Within′.mir
+
+abbrev pub wi : Data Wi
+wi = data-of Within.the-type Within′.the-laws Within′.the-copy Within′.the-plain
 
 abbrev pub Cs : RattleType
 Cs = Step.the-row
@@ -31,15 +42,9 @@ ck-ty = Slots′.mir
 abbrev pub ck : Data Ck
 ck = data-of Slots.the-type Slots′.the-laws Slots′.the-copy Slots′.the-plain
 
--- the fields of a value of `Step`
-pub cs-at : (z : Step) → Is Cs z (vals cs z) → Is u32 (z .at) (vals (uint-data w32) (z .at))
-cs-at z is = LL.owed Step.the-type Step′.the-laws z (vals cs z) is .0
-
-pub cs-slot : (z : Step) → Is Cs z (vals cs z) → Is usize (z .slot) (vals (uint-data w64) (z .slot))
-cs-slot z is = LL.owed Step.the-type Step′.the-laws z (vals cs z) is .1 .1 .0
-
-pub cs-end : (z : Step) → Is Cs z (vals cs z) → Is u32 (z .end) (vals (uint-data w32) (z .end))
-cs-end z is = LL.owed Step.the-type Step′.the-laws z (vals cs z) is .1 .1 .1 .1 .1 .1 .1 .1 .0
+-- the slot of a value of `Within`
+pub wi-slot : (z : Within) → Is Wi z (vals wi z) → Is usize (z .slot) (vals (uint-data w64) (z .slot))
+wi-slot z is = LL.owed Within.the-type Within′.the-laws z (vals wi z) is .1 .1 .0
 
 -- the fields of a value of `Slots`
 pub ck-left : (z : Slots) → Is Ck z (vals ck z) → Is usize (z .left) (vals (uint-data w64) (z .left))

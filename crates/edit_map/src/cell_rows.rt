@@ -1,16 +1,22 @@
 // The cells of a row with what stands in them, written to slots.
 use crate::cell_steps::Step;
+use crate::cell_steps::cell_closed;
 use crate::cell_steps::cell_entered;
 use crate::cell_steps::cell_first;
 use crate::cell_steps::cell_left;
 use crate::cell_steps::cells_reached;
+use crate::cell_steps::mark_part;
+use crate::cell_steps::mark_step;
 use crate::cell_steps::piece_entered;
 use crate::cell_steps::piece_left;
+use crate::cell_steps::row_stop;
 use crate::cell_steps::slots_of;
-use crate::cell_steps::step_after;
-use crate::cell_steps::step_first;
+use crate::cell_steps::text_part;
+use crate::cell_steps::text_step;
 use crate::cell_steps::value_entered;
 use crate::cell_steps::value_left;
+use crate::cell_steps::within_after;
+use crate::cell_steps::within_first;
 use gfm_table::rows::Reached;
 use gfm_table::stream::Part;
 use tokenizer::event::Event;
@@ -18,6 +24,7 @@ use tokenizer::slots::put;
 ghost use mathlib.Core.Path.{_≡_};
 ghost use Prim.Native.Nat.{_≤_, _<_};
 ghost use Rattle.tokenizer.specs.Moves.{Inside};
+ghost use Rattle.gfm_table.specs.declared.stream.Part.the-variants.{Delimiter, Body};
 ghost use Rattle.gfm_table.specs.Places.{pointIn};
 ghost use Rattle.edit_map.specs.CellRows.{stepPut, cellsEnd, cellsWrote};
 
@@ -35,24 +42,38 @@ pub fn put_step(slots: &mut [Event], part: Part, line: u32, x: Step)
     put(slots, k.closed, value_left(part, line, x));
 }
 
-// The cells of a row with what stands in them, from its first byte, into the slots from a place on.
-pub fn write_cells(
-    s: &[u8],
-    part: Part,
-    line: u32,
-    from: u32,
-    slots: &mut [Event],
-    to: usize,
-) -> Reached
+// The cells of a head line or a body row with what stands in them, from its first byte, into the slots from a place on.
+pub fn write_text_cells(s: &[u8], line: u32, from: u32, slots: &mut [Event], to: usize) -> Reached
     requires { ⌜ Inside (now s) (pointIn line from 1) × (to ≤ 4294967296) ⌝ }
-    ensures { λ r. ⌜ (r ≡ cellsEnd (now (s .entry)) part (pointIn line from 1) to) × (now (slots .exit) ≡ cellsWrote (now (s .entry)) part (pointIn line from 1) to (now (slots .entry))) ⌝ }
+    ensures { λ r. ⌜ (r ≡ cellsEnd (now (s .entry)) Body (pointIn line from 1) to) × (now (slots .exit) ≡ cellsWrote (now (s .entry)) Body (pointIn line from 1) to (now (slots .entry))) ⌝ }
 {
+    let part = text_part();
     put(slots, to, cell_first(part, line, from));
-    let mut x = step_first(s, part, from, to);
-    while x.at < x.end {
+    let end = row_stop(s, from);
+    let mut w = within_first(from, to);
+    while w.at < end {
+        let x = text_step(s, w);
         put_step(slots, part, line, x);
-        x = step_after(s, part, x);
+        w = within_after(x);
     }
-    put(slots, x.slot, cell_left(part, line, x));
-    cells_reached(x)
+    put(slots, w.slot, cell_closed(part, line, w));
+    cells_reached(w)
+}
+
+// The cells of a delimiter row with what stands in them, from its first byte, into the slots from a place on.
+pub fn write_mark_cells(s: &[u8], line: u32, from: u32, slots: &mut [Event], to: usize) -> Reached
+    requires { ⌜ Inside (now s) (pointIn line from 1) × (to ≤ 4294967296) ⌝ }
+    ensures { λ r. ⌜ (r ≡ cellsEnd (now (s .entry)) Delimiter (pointIn line from 1) to) × (now (slots .exit) ≡ cellsWrote (now (s .entry)) Delimiter (pointIn line from 1) to (now (slots .entry))) ⌝ }
+{
+    let part = mark_part();
+    put(slots, to, cell_first(part, line, from));
+    let end = row_stop(s, from);
+    let mut w = within_first(from, to);
+    while w.at < end {
+        let x = mark_step(s, w);
+        put_step(slots, part, line, x);
+        w = within_after(x);
+    }
+    put(slots, w.slot, cell_closed(part, line, w));
+    cells_reached(w)
 }

@@ -7,11 +7,13 @@ use crate::resolve_base::either;
 use crate::resolve_base::is_text_name;
 use gfm_table::rows::Placed;
 use gfm_table::rows::Reached;
-use gfm_table::rows::next_at;
+use gfm_table::rows::marks_at;
+use gfm_table::rows::text_at;
 use gfm_table::stream::Part;
 use tokenizer::event::Event;
 use tokenizer::event::Name;
 use tokenizer::event::Point;
+use tokenizer::lines::line_stop;
 use tokenizer::slots::past_if;
 use tokenizer::slots::slot_if;
 ghost use mathlib.Core.Path.{_≡_};
@@ -20,9 +22,10 @@ ghost use Prim.Native.Nat.{_≤_, _<_, _+_, _*_};
 ghost use lib.ListN.{length, drop};
 ghost use Rattle.tokenizer.specs.Lines.{lineBody};
 ghost use Rattle.tokenizer.specs.Events.{enter, leave};
+ghost use Rattle.gfm_table.specs.declared.stream.Part.the-variants.{Delimiter, Body};
 ghost use Rattle.gfm_table.specs.Places.{pointIn};
 ghost use Rattle.edit_map.specs.Spans.{textNext};
-ghost use Rattle.edit_map.specs.CellRows.{cellOf, valueOf, reachOf, stepFrom, stepOf, slotsIn, firstWithin, behind, startOf, stopOf, entryIn};
+ghost use Rattle.edit_map.specs.CellRows.{cellOf, valueOf, reachOf, stepOf, slotsIn, firstWithin, behind, startOf, stopOf, entryIn};
 
 // Inside a row's cell: the place, the column there, the next slot, whether a piece other than whitespace came, and whether the cell waits for a mark.
 pub struct Within {
@@ -58,6 +61,20 @@ pub struct Slots {
     pub finish: usize,
     pub closed: usize,
     pub next: usize,
+}
+
+// A head line or a body row.
+pub fn text_part() -> Part
+    ensures { λ r. ⌜ r ≡ Body ⌝ }
+{
+    Part::Body
+}
+
+// A delimiter row.
+pub fn mark_part() -> Part
+    ensures { λ r. ⌜ r ≡ Delimiter ⌝ }
+{
+    Part::Delimiter
 }
 
 // The name of a row's cells.
@@ -125,11 +142,14 @@ pub fn reach_from(s: &[u8], x: Placed) -> Placed
     }
 }
 
-// The step over a piece, by what was found out about it.
-pub fn step_from(w: Within, x: Placed, o: bool, m: bool, y: Placed) -> Step
-    ensures { λ r. ⌜ r ≡ stepFrom w x o m y ⌝ }
+// The step over the next piece of a head line or a body row.
+pub fn text_step(s: &[u8], w: Within) -> Step
+    requires { ⌜ (length (now s) ≤ 65536) × (w .at ≤ length (now s)) × (w .column ≤ 4 * w .at + 1) ⌝ }
+    ensures { λ r. ⌜ r ≡ stepOf (now (s .entry)) Body w ⌝ }
 {
-    let t = is_text_name(x.name);
+    let x = text_at(s, w.at, w.column);
+    let o = opens(s, w.seen, x.name, x.end as usize);
+    let y = reach_from(s, x);
     let d = x.name == Name::Data;
     Step {
         at: w.at,
@@ -138,44 +158,39 @@ pub fn step_from(w: Within, x: Placed, o: bool, m: bool, y: Placed) -> Step
         name: x.name,
         link: link_if(d),
         opens: o,
-        enters: both(t, either(d, w.waits)),
-        leaves: unless(t, m),
+        enters: d,
+        leaves: d,
         end: y.end,
         stop: y.column,
         seen: either(w.seen, x.name != Name::SpaceOrTab),
-        waits: either(o, unless(w.waits, t)),
+        waits: either(o, unless(w.waits, d)),
     }
 }
 
-// The step over the next piece of a row.
-pub fn step_at(s: &[u8], part: Part, w: Within) -> Step
+// The step over the next piece of a delimiter row.
+pub fn mark_step(s: &[u8], w: Within) -> Step
     requires { ⌜ (length (now s) ≤ 65536) × (w .at ≤ length (now s)) × (w .column ≤ 4 * w .at + 1) ⌝ }
-    ensures { λ r. ⌜ r ≡ stepOf (now (s .entry)) part w ⌝ }
+    ensures { λ r. ⌜ r ≡ stepOf (now (s .entry)) Delimiter w ⌝ }
 {
-    let x = next_at(s, part, w.at, w.column);
+    let x = marks_at(s, w.at, w.column);
     let e = x.end as usize;
     let o = opens(s, w.seen, x.name, e);
-    let go = unless(is_text_name(x.name), x.name == Name::Data);
-    let m = text_follows(s, go, e);
-    step_from(w, x, o, m, reach_from(s, x))
-}
-
-// The first step of a row whose first cell is entered in a slot.
-pub fn step_first(s: &[u8], part: Part, from: u32, to: usize) -> Step
-    requires { ⌜ (length (now s) ≤ 65536) × (from ≤ length (now s)) × (to ≤ 4294967296) ⌝ }
-    ensures { λ r. ⌜ r ≡ stepOf (now (s .entry)) part (firstWithin from to) ⌝ }
-{
-    step_at(
-        s,
-        part,
-        Within {
-            at: from,
-            column: 1,
-            slot: to + 1,
-            seen: false,
-            waits: true,
-        },
-    )
+    let t = is_text_name(x.name);
+    let m = text_follows(s, t, e);
+    Step {
+        at: w.at,
+        column: w.column,
+        slot: w.slot,
+        name: x.name,
+        link: 0,
+        opens: o,
+        enters: both(t, w.waits),
+        leaves: unless(t, m),
+        end: x.end,
+        stop: x.column,
+        seen: either(w.seen, x.name != Name::SpaceOrTab),
+        waits: either(o, unless(w.waits, t)),
+    }
 }
 
 // The slots of a step's events.
@@ -197,23 +212,41 @@ pub fn slots_of(x: Step) -> Slots
     }
 }
 
-// The step behind a step.
-pub fn step_after(s: &[u8], part: Part, x: Step) -> Step
-    requires { ⌜ (length (now s) ≤ 65536) × (x .end ≤ length (now s)) × (x .stop ≤ 4 * x .end + 1) × (x .slot < 1000000000000) ⌝ }
-    ensures { λ r. ⌜ r ≡ stepOf (now (s .entry)) part (behind x) ⌝ }
+// Where the bytes of a row end.
+pub fn row_stop(s: &[u8], from: u32) -> u32
+    requires { ⌜ (length (now s) ≤ 65536) × (from ≤ length (now s)) ⌝ }
+    ensures { λ r. ⌜ r ≡ from + length (lineBody (drop from (now (s .entry)))) ⌝ }
+{
+    line_stop(s, from as usize) as u32
+}
+
+// Before the first step of a row whose first cell is entered in a slot.
+pub fn within_first(from: u32, to: usize) -> Within
+    requires { ⌜ to ≤ 4294967296 ⌝ }
+    ensures { λ r. ⌜ r ≡ firstWithin from to ⌝ }
+{
+    Within {
+        at: from,
+        column: 1,
+        slot: to + 1,
+        seen: false,
+        waits: true,
+    }
+}
+
+// Behind a step.
+pub fn within_after(x: Step) -> Within
+    requires { ⌜ x .slot < 1000000000000 ⌝ }
+    ensures { λ r. ⌜ r ≡ behind x ⌝ }
 {
     let k = slots_of(x);
-    step_at(
-        s,
-        part,
-        Within {
-            at: x.end,
-            column: x.stop,
-            slot: k.next,
-            seen: x.seen,
-            waits: x.waits,
-        },
-    )
+    Within {
+        at: x.end,
+        column: x.stop,
+        slot: k.next,
+        seen: x.seen,
+        waits: x.waits,
+    }
 }
 
 // A row's first cell is entered.
@@ -321,14 +354,29 @@ pub fn piece_left(line: u32, x: Step) -> Event
     )
 }
 
-// Where a row ends whose last cell is left in the step's slot.
-pub fn cells_reached(x: Step) -> Reached
-    requires { ⌜ x .slot < 1000000000000 ⌝ }
-    ensures { λ r. ⌜ r ≡ record { at = x .at; column = x .column; slot = x .slot + 1 } ⌝ }
+// A row's last cell is left where the row ends.
+pub fn cell_closed(part: Part, line: u32, w: Within) -> Event
+    ensures { λ r. ⌜ r ≡ leave (cellOf part) (pointIn line (w .at) (w .column)) ⌝ }
+{
+    Event::exit(
+        cell_name(part),
+        Point {
+            line,
+            column: w.column,
+            index: w.at,
+            vs: 0,
+        },
+    )
+}
+
+// Where a row ends whose last cell is left in the next slot.
+pub fn cells_reached(w: Within) -> Reached
+    requires { ⌜ w .slot < 1000000000000 ⌝ }
+    ensures { λ r. ⌜ r ≡ record { at = w .at; column = w .column; slot = w .slot + 1 } ⌝ }
 {
     Reached {
-        at: x.at,
-        column: x.column,
-        slot: x.slot + 1,
+        at: w.at,
+        column: w.column,
+        slot: w.slot + 1,
     }
 }

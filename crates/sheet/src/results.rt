@@ -11,8 +11,10 @@ use crate::tables::one_more;
 use crate::tables::row_end;
 use crate::tables::row_entry;
 use crate::tables::row_exit;
-use edit_map::cell_rows::write_cells;
-use gfm_table::stream::Part;
+use edit_map::cell_rows::write_mark_cells;
+use edit_map::cell_rows::write_text_cells;
+use edit_map::cell_steps::mark_part;
+use edit_map::cell_steps::text_part;
 use tokenizer::event::Event;
 use tokenizer::event::Name;
 use tokenizer::event::Point;
@@ -34,20 +36,6 @@ ghost use Rattle.sheet.specs.From.{AtLine, here};
 ghost use Rattle.sheet.specs.Spans.{lastPoint, lastStop};
 ghost use Rattle.sheet.specs.Placing.{pointAt, writtenAt, AtEnd, Few, tableAt};
 ghost use Rattle.sheet.specs.Results.{rowResult, breakResult, headResult, bodyAfter, rowsResult, endResult};
-
-// A head line or a body row.
-pub fn text_part() -> Part
-    ensures { λ r. ⌜ r ≡ Body ⌝ }
-{
-    Part::Body
-}
-
-// A delimiter row.
-pub fn mark_part() -> Part
-    ensures { λ r. ⌜ r ≡ Delimiter ⌝ }
-{
-    Part::Delimiter
-}
 
 // A name is entered where the writing has come to.
 pub fn name_entry(name: u8, w: Written) -> Event
@@ -126,21 +114,29 @@ pub fn result_break(s: &[u8], w: Written, slots: &mut [Event]) -> Written
     b
 }
 
-// A row: its entry, its cells and its exit.
-pub fn result_row(
-    s: &[u8],
-    part: Part,
-    line: u32,
-    from: u32,
-    slots: &mut [Event],
-    to: usize,
-) -> Written
-    requires { ⌜ Inside (now s) (pointIn line from 1) × Few to (rowResult (now s) part (pointIn line from 1)) ⌝ }
-    ensures { λ r. ⌜ (r ≡ writtenAt (endOf (here (now (s .entry)) (pointIn line from 1))) (to + length (rowResult (now (s .entry)) part (pointIn line from 1))))
-        × (now (slots .exit) ≡ wrote to (rowResult (now (s .entry)) part (pointIn line from 1)) (now (slots .entry))) ⌝ }
+// A head line or a body row: its entry, its cells and its exit.
+pub fn result_text_row(s: &[u8], line: u32, from: u32, slots: &mut [Event], to: usize) -> Written
+    requires { ⌜ Inside (now s) (pointIn line from 1) × Few to (rowResult (now s) Body (pointIn line from 1)) ⌝ }
+    ensures { λ r. ⌜ (r ≡ writtenAt (endOf (here (now (s .entry)) (pointIn line from 1))) (to + length (rowResult (now (s .entry)) Body (pointIn line from 1))))
+        × (now (slots .exit) ≡ wrote to (rowResult (now (s .entry)) Body (pointIn line from 1)) (now (slots .entry))) ⌝ }
 {
+    let part = text_part();
     put(slots, to, row_entry(part, line, from));
-    let r = write_cells(s, part, line, from, slots, behind(to));
+    let r = write_text_cells(s, line, from, slots, behind(to));
+    let e = row_end(line, r);
+    put(slots, e.slot, row_exit(part, e));
+    one_more(e)
+}
+
+// A delimiter row: its entry, its cells and its exit.
+pub fn result_mark_row(s: &[u8], line: u32, from: u32, slots: &mut [Event], to: usize) -> Written
+    requires { ⌜ Inside (now s) (pointIn line from 1) × Few to (rowResult (now s) Delimiter (pointIn line from 1)) ⌝ }
+    ensures { λ r. ⌜ (r ≡ writtenAt (endOf (here (now (s .entry)) (pointIn line from 1))) (to + length (rowResult (now (s .entry)) Delimiter (pointIn line from 1))))
+        × (now (slots .exit) ≡ wrote to (rowResult (now (s .entry)) Delimiter (pointIn line from 1)) (now (slots .entry))) ⌝ }
+{
+    let part = mark_part();
+    put(slots, to, row_entry(part, line, from));
+    let r = write_mark_cells(s, line, from, slots, behind(to));
     let e = row_end(line, r);
     put(slots, e.slot, row_exit(part, e));
     one_more(e)
@@ -155,9 +151,9 @@ pub fn result_head(s: &[u8], line: u32, from: u32, slots: &mut [Event], to: usiz
     put(slots, to, line_entry(Name::GfmTable, line, from));
     let k = behind(to);
     put(slots, k, head_entry(line, from));
-    let h = result_row(s, text_part(), line, from, slots, behind(k));
+    let h = result_text_row(s, line, from, slots, behind(k));
     let b = result_break(s, h, slots);
-    let d = result_row(s, mark_part(), b.line, b.at, slots, b.slot);
+    let d = result_mark_row(s, b.line, b.at, slots, b.slot);
     put(slots, d.slot, head_exit(d));
     one_more(d)
 }
@@ -177,7 +173,7 @@ pub fn result_rows(s: &[u8], w: Written, stop: u32, slots: &mut [Event]) -> Writ
             b,
             name_entry(Name::GfmTableBody, b),
         );
-        let e = result_row(s, text_part(), k.line, k.at, slots, k.slot);
+        let e = result_text_row(s, k.line, k.at, slots, k.slot);
         x = e;
     }
     x

@@ -1,7 +1,6 @@
 -- `results::result_head` meets its contract.
 -- Assumes nothing.
 use Rattle.tokenizer.proofs.Prelude.{_≡_, refl, sym, _∙_, ap, subst, ℕ, zero, suc, _+_, _-_, _*_, _<_, _≤_, _^_, arith, Bool, true, false, not, List, [], _∷_, _++_, Holds, ltb, ltb→lt, nltb→le, lit<, length, getD, set, take, dropN, length-set, URA, fullShare, Ty, named, imm, mut, erased, w8, w16, w32, w64, tyInt, tyBool, tyUnit, tyPtr, tyRef, tyArray, Val, vunit, vbool, vint, vptr, SProp, ent, sep, emp, id⊢, via, fst∗, ∗emp, Lft, GName, Share, Fml, ftrue, fsep, fat, froom, fdies, flft, Memory, Routine, afterTurn, Heap, Out, Env, Calls, Loops, Wp, WpFn, Tables, afterSeq, afterBlock, atReturn, Atoms, sem, Fun, fact, fact-mono, tablesOf, givenOf, tables, Given, Item, Sq, Goal, cut, runs, anyQ, atRet, ‵, raw, _⊛_, ⋆, _$_, _∵_, !, qed, by, move, keep, drop, use0, use1, use2, use3, split, join, pick, learn, rewrite, fsplit, fsplit3, fjoin, fjoin3, feqL, feqI, suffices, frame, await, done, agg, rep, whole, sub, look-in, store-in, look, look-raw, store, store-raw, init, forget, stop, hop, fld, from, load, lit, unit-lit, true-lit, false-lit, addr, of-opd, bin, un, and-then, no-more, assigns, assigns-last, land, land-last, first, skips, jumps, blocks, branches, returns, returns-within, enter, alloc1, alloc0, params1, pass1, pass0, free1, free0, exec, Below, again, loops, FmC, fmOf, WpFn-mono, RattleType, owns, Is, shows, pointee, uint-vals, uint-tells, uint-makes, nothing-lawful, u8, u16, u32, usize, bool, Array, RefT, MutRef, ShrRef, ptr-vals, mut-tells, shr-tells, sliceTy, sliceVal, ShrSlice, MutSlice, Room, finally, slice-vals, shr-slice-tells, mut-slice-tells, place-is, place-byte, plain, nothing, owned, Contract, Triple, calls-at, calls-at-last, Vals, onEntry, Meets, tripleOf, entered, cited, says, needs, Stays, stay-slice, gave-slice, stay-none-slice, stay-ref, gave-ref, stay-none-ref, stay-none, walkOf, ends-at, walked, goes-slice, goes-gave-slice, goes-none-slice, goes-ref, goes-gave-ref, goes-none-ref, goes-none, walk-meets, yes, Data, uint-data, bool-data, vals, typed, place-fits, holds, fails, tl, big-lit, sl, Mut, Shr, copies, looks-elem, shuts-elem, opens-elem, closes-elem, lends-row, row-back, lends, home, shares, shared-home, array-data, repeat-is, parts-array, whole-array, reads-row, back-row, rf, looks-ref, shuts-ref, opens-ref, closes-ref, lends-local, local-home, answers, calls-plain, calls-plain-last, lends-array, array-home, shares-array, array-shared-home, calls-with, calls-unit, at-unit}
-use Rattle.gfm_table.proofs.Types.{Pa, pa, pa-ty}
 use Rattle.sheet.proofs.Types.{Wn, wn, wn-ty, wn-line, wn-at, wn-slot}
 use Rattle.tokenizer.proofs.Types.{Ev, ev, ev-ty}
 use Rattle.tokenizer.specs.Events.{GfmTable, GfmTableHead, enter as entryAt, leave as exitAt}
@@ -30,22 +29,18 @@ use Rattle.sheet.proofs.tables.head_entry as tables-head-entry
 use Rattle.sheet.proofs.tables.head_entry.Symbol as tables-head-entry-def
 use Rattle.sheet.proofs.tables.head_entry.Symbol.{name as #sheet·tables·head-entry}
 use Rattle.sheet.proofs.tables.head_entry.Met as tables-head-entry-thm
-use Rattle.sheet.proofs.results.text_part as results-text-part
-use Rattle.sheet.proofs.results.text_part.Symbol as results-text-part-def
-use Rattle.sheet.proofs.results.text_part.Symbol.{name as #sheet·results·text-part}
-use Rattle.sheet.proofs.results.text_part.Met as results-text-part-thm
-use Rattle.sheet.proofs.results.result_row as results-result-row
-use Rattle.sheet.proofs.results.result_row.Symbol as results-result-row-def
-use Rattle.sheet.proofs.results.result_row.Symbol.{name as #sheet·results·result-row}
-use Rattle.sheet.proofs.results.result_row.Met as results-result-row-thm
+use Rattle.sheet.proofs.results.result_text_row as results-result-text-row
+use Rattle.sheet.proofs.results.result_text_row.Symbol as results-result-text-row-def
+use Rattle.sheet.proofs.results.result_text_row.Symbol.{name as #sheet·results·result-text-row}
+use Rattle.sheet.proofs.results.result_text_row.Met as results-result-text-row-thm
+use Rattle.sheet.proofs.results.result_mark_row as results-result-mark-row
+use Rattle.sheet.proofs.results.result_mark_row.Symbol as results-result-mark-row-def
+use Rattle.sheet.proofs.results.result_mark_row.Symbol.{name as #sheet·results·result-mark-row}
+use Rattle.sheet.proofs.results.result_mark_row.Met as results-result-mark-row-thm
 use Rattle.sheet.proofs.results.result_break as results-result-break
 use Rattle.sheet.proofs.results.result_break.Symbol as results-result-break-def
 use Rattle.sheet.proofs.results.result_break.Symbol.{name as #sheet·results·result-break}
 use Rattle.sheet.proofs.results.result_break.Met as results-result-break-thm
-use Rattle.sheet.proofs.results.mark_part as results-mark-part
-use Rattle.sheet.proofs.results.mark_part.Symbol as results-mark-part-def
-use Rattle.sheet.proofs.results.mark_part.Symbol.{name as #sheet·results·mark-part}
-use Rattle.sheet.proofs.results.mark_part.Met as results-mark-part-thm
 use Rattle.sheet.proofs.tables.head_exit as tables-head-exit
 use Rattle.sheet.proofs.tables.head_exit.Symbol as tables-head-exit-def
 use Rattle.sheet.proofs.tables.head_exit.Symbol.{name as #sheet·tables·head-exit}
@@ -75,17 +70,14 @@ TablesBehind′ 𝓤 H A mem run′ = tripleOf 𝓤 H A tables-behind.signature 
 abbrev TablesHeadEntry′ : {M : Type 1} (𝓤 : URA M) (H : Heap 𝓤) (A : Atoms 𝓤) (mem : Memory → SProp 𝓤) (run′ : Routine → Fun 𝓤) → Contract 𝓤
 TablesHeadEntry′ 𝓤 H A mem run′ = tripleOf 𝓤 H A tables-head-entry.signature (tables-head-entry.spec 𝓤 H A mem run′)
 
-abbrev ResultsTextPart′ : {M : Type 1} (𝓤 : URA M) (H : Heap 𝓤) (A : Atoms 𝓤) (mem : Memory → SProp 𝓤) (run′ : Routine → Fun 𝓤) → Contract 𝓤
-ResultsTextPart′ 𝓤 H A mem run′ = tripleOf 𝓤 H A results-text-part.signature (results-text-part.spec 𝓤 H A mem run′)
+abbrev ResultsResultTextRow′ : {M : Type 1} (𝓤 : URA M) (H : Heap 𝓤) (A : Atoms 𝓤) (mem : Memory → SProp 𝓤) (run′ : Routine → Fun 𝓤) → Contract 𝓤
+ResultsResultTextRow′ 𝓤 H A mem run′ = tripleOf 𝓤 H A results-result-text-row.signature (results-result-text-row.spec 𝓤 H A mem run′)
 
-abbrev ResultsResultRow′ : {M : Type 1} (𝓤 : URA M) (H : Heap 𝓤) (A : Atoms 𝓤) (mem : Memory → SProp 𝓤) (run′ : Routine → Fun 𝓤) → Contract 𝓤
-ResultsResultRow′ 𝓤 H A mem run′ = tripleOf 𝓤 H A results-result-row.signature (results-result-row.spec 𝓤 H A mem run′)
+abbrev ResultsResultMarkRow′ : {M : Type 1} (𝓤 : URA M) (H : Heap 𝓤) (A : Atoms 𝓤) (mem : Memory → SProp 𝓤) (run′ : Routine → Fun 𝓤) → Contract 𝓤
+ResultsResultMarkRow′ 𝓤 H A mem run′ = tripleOf 𝓤 H A results-result-mark-row.signature (results-result-mark-row.spec 𝓤 H A mem run′)
 
 abbrev ResultsResultBreak′ : {M : Type 1} (𝓤 : URA M) (H : Heap 𝓤) (A : Atoms 𝓤) (mem : Memory → SProp 𝓤) (run′ : Routine → Fun 𝓤) → Contract 𝓤
 ResultsResultBreak′ 𝓤 H A mem run′ = tripleOf 𝓤 H A results-result-break.signature (results-result-break.spec 𝓤 H A mem run′)
-
-abbrev ResultsMarkPart′ : {M : Type 1} (𝓤 : URA M) (H : Heap 𝓤) (A : Atoms 𝓤) (mem : Memory → SProp 𝓤) (run′ : Routine → Fun 𝓤) → Contract 𝓤
-ResultsMarkPart′ 𝓤 H A mem run′ = tripleOf 𝓤 H A results-mark-part.signature (results-mark-part.spec 𝓤 H A mem run′)
 
 abbrev TablesHeadExit′ : {M : Type 1} (𝓤 : URA M) (H : Heap 𝓤) (A : Atoms 𝓤) (mem : Memory → SProp 𝓤) (run′ : Routine → Fun 𝓤) → Contract 𝓤
 TablesHeadExit′ 𝓤 H A mem run′ = tripleOf 𝓤 H A tables-head-exit.signature (tables-head-exit.spec 𝓤 H A mem run′)
@@ -124,20 +116,21 @@ module _ {M : Type 1} (𝓤 : URA M) (H : Heap 𝓤) (A : Atoms 𝓤) (W : Given
   asks-tables-head-entry : (a₁ : u32 .Denot) (a₂ : u32 .Denot) (a₁-ok : Is u32 a₁ (vals (uint-data w32) a₁)) (a₂-ok : Is u32 a₂ (vals (uint-data w32) a₂)) → ent 𝓤 (emp 𝓤) (TablesHeadEntry′ 𝓤 H A mem run′ .pre (to-tables-head-entry a₁ a₂))
   asks-tables-head-entry a₁ a₂ a₁-ok a₂-ok = qed W [] ∵ nothing ! $ nothing ! $ owned ! u32 (Is u32) ((uint-data w32) .makes M 𝓤 H A W) a₂ _ a₂-ok $ fjoin ! $ owned ! u32 (Is u32) ((uint-data w32) .makes M 𝓤 H A W) a₁ _ a₁-ok $ fjoin ! $ nothing ! $ join ! $ frame ! $ done !
 
-  -- `results::text_part`: what its triple binds outside, and that the slices lent and their tokens give what it asks
-  abbrev to-results-text-part : ResultsTextPart′ 𝓤 H A mem run′ .Ghost
-  to-results-text-part = ((tt, tt, tt, tt, tt), tt)
+  -- `results::result_text_row`: what its triple binds outside, and that the slices lent and their tokens give what it asks
+  abbrev to-results-result-text-row : (κ₁ : Lft) (q₁ : Share) (b₁ o₁ n₁ : ℕ) (γ₁ : GName) (ys₁ : List (u8 .Denot)) (a₂ : u32 .Denot) (a₃ : u32 .Denot) (κ₄ : Lft) (q₄ : Share) (b₄ o₄ n₄ : ℕ) (γ₄ : GName) (ys₄ : List (Ev .Denot)) (a₅ : usize .Denot) → ResultsResultTextRow′ 𝓤 H A mem run′ .Ghost
+  to-results-result-text-row κ₁ q₁ b₁ o₁ n₁ γ₁ ys₁ a₂ a₃ κ₄ q₄ b₄ o₄ n₄ γ₄ ys₄ a₅ = (((κ₁, (κ₄, tt)), (q₁, (q₄, tt)), tt, (sl b₁ o₁ γ₁ ys₁, (a₂, (a₃, (sl b₄ o₄ γ₄ ys₄, (a₅, tt))))), (sliceVal (b₁, o₁) n₁ ∷ [], ((uint-data w32) .val a₂ ∷ [], ((uint-data w32) .val a₃ ∷ [], (sliceVal (b₄, o₄) n₄ ∷ [], ((uint-data w64) .val a₅ ∷ [], tt)))))), tt)
 
-  asks-results-text-part : ent 𝓤 (emp 𝓤) (ResultsTextPart′ 𝓤 H A mem run′ .pre to-results-text-part)
-  asks-results-text-part = qed W [] ∵ nothing ! $ nothing ! $ nothing ! $ join ! $ frame ! $ done !
+  asks-results-result-text-row : (κ₁ : Lft) (q₁ : Share) (b₁ o₁ n₁ : ℕ) (γ₁ : GName) (ys₁ : List (u8 .Denot)) (a₂ : u32 .Denot) (a₃ : u32 .Denot) (κ₄ : Lft) (q₄ : Share) (b₄ o₄ n₄ : ℕ) (γ₄ : GName) (ys₄ : List (Ev .Denot)) (a₅ : usize .Denot) (a₂-ok : Is u32 a₂ (vals (uint-data w32) a₂)) (a₃-ok : Is u32 a₃ (vals (uint-data w32) a₃)) (a₅-ok : Is usize a₅ (vals (uint-data w64) a₅)) (asked : Inside ys₁ (pointIn a₂ a₃ 1) × Few a₅ (rowResult ys₁ Body (pointIn a₂ a₃ 1))) → ent 𝓤 (⋆ 𝓤 H A (‵ (Shr u8 κ₁ b₁ o₁ n₁ γ₁ ys₁) ∷ ‵ (flft κ₁ q₁) ∷ ‵ (Mut Ev κ₄ b₄ o₄ n₄ γ₄ ys₄) ∷ ‵ (flft κ₄ q₄) ∷ [])) (⋆ 𝓤 H A (raw (ResultsResultTextRow′ 𝓤 H A mem run′ .pre (to-results-result-text-row κ₁ q₁ b₁ o₁ n₁ γ₁ ys₁ a₂ a₃ κ₄ q₄ b₄ o₄ n₄ γ₄ ys₄ a₅)) ∷ []))
+  asks-results-result-text-row κ₁ q₁ b₁ o₁ n₁ γ₁ ys₁ a₂ a₃ κ₄ q₄ b₄ o₄ n₄ γ₄ ys₄ a₅ a₂-ok a₃-ok a₅-ok asked =
+      qed W (‵ (Shr u8 κ₁ b₁ o₁ n₁ γ₁ ys₁) ∷ ‵ (flft κ₁ q₁) ∷ ‵ (Mut Ev κ₄ b₄ o₄ n₄ γ₄ ys₄) ∷ ‵ (flft κ₄ q₄) ∷ []) ∵ says ! asked $ nothing ! $ move ! (4 ∷ 0 ∷ []) $ join ! $ move ! (2 ∷ 0 ∷ []) $ join ! $ frame ! $ nothing ! $ owned ! usize (Is usize) ((uint-data w64) .makes M 𝓤 H A W) a₅ _ a₅-ok $ fjoin ! $ move ! (2 ∷ 0 ∷ []) $ fjoin ! $ owned ! u32 (Is u32) ((uint-data w32) .makes M 𝓤 H A W) a₃ _ a₃-ok $ fjoin ! $ owned ! u32 (Is u32) ((uint-data w32) .makes M 𝓤 H A W) a₂ _ a₂-ok $ fjoin ! $ move ! (1 ∷ 0 ∷ []) $ fjoin ! $ done !
 
-  -- `results::result_row`: what its triple binds outside, and that the slices lent and their tokens give what it asks
-  abbrev to-results-result-row : (κ₁ : Lft) (q₁ : Share) (b₁ o₁ n₁ : ℕ) (γ₁ : GName) (ys₁ : List (u8 .Denot)) (a₂ : Pa .Denot) (a₃ : u32 .Denot) (a₄ : u32 .Denot) (κ₅ : Lft) (q₅ : Share) (b₅ o₅ n₅ : ℕ) (γ₅ : GName) (ys₅ : List (Ev .Denot)) (a₆ : usize .Denot) → ResultsResultRow′ 𝓤 H A mem run′ .Ghost
-  to-results-result-row κ₁ q₁ b₁ o₁ n₁ γ₁ ys₁ a₂ a₃ a₄ κ₅ q₅ b₅ o₅ n₅ γ₅ ys₅ a₆ = (((κ₁, (κ₅, tt)), (q₁, (q₅, tt)), tt, (sl b₁ o₁ γ₁ ys₁, (a₂, (a₃, (a₄, (sl b₅ o₅ γ₅ ys₅, (a₆, tt)))))), (sliceVal (b₁, o₁) n₁ ∷ [], (pa .val a₂ ∷ [], ((uint-data w32) .val a₃ ∷ [], ((uint-data w32) .val a₄ ∷ [], (sliceVal (b₅, o₅) n₅ ∷ [], ((uint-data w64) .val a₆ ∷ [], tt))))))), tt)
+  -- `results::result_mark_row`: what its triple binds outside, and that the slices lent and their tokens give what it asks
+  abbrev to-results-result-mark-row : (κ₁ : Lft) (q₁ : Share) (b₁ o₁ n₁ : ℕ) (γ₁ : GName) (ys₁ : List (u8 .Denot)) (a₂ : u32 .Denot) (a₃ : u32 .Denot) (κ₄ : Lft) (q₄ : Share) (b₄ o₄ n₄ : ℕ) (γ₄ : GName) (ys₄ : List (Ev .Denot)) (a₅ : usize .Denot) → ResultsResultMarkRow′ 𝓤 H A mem run′ .Ghost
+  to-results-result-mark-row κ₁ q₁ b₁ o₁ n₁ γ₁ ys₁ a₂ a₃ κ₄ q₄ b₄ o₄ n₄ γ₄ ys₄ a₅ = (((κ₁, (κ₄, tt)), (q₁, (q₄, tt)), tt, (sl b₁ o₁ γ₁ ys₁, (a₂, (a₃, (sl b₄ o₄ γ₄ ys₄, (a₅, tt))))), (sliceVal (b₁, o₁) n₁ ∷ [], ((uint-data w32) .val a₂ ∷ [], ((uint-data w32) .val a₃ ∷ [], (sliceVal (b₄, o₄) n₄ ∷ [], ((uint-data w64) .val a₅ ∷ [], tt)))))), tt)
 
-  asks-results-result-row : (κ₁ : Lft) (q₁ : Share) (b₁ o₁ n₁ : ℕ) (γ₁ : GName) (ys₁ : List (u8 .Denot)) (a₂ : Pa .Denot) (a₃ : u32 .Denot) (a₄ : u32 .Denot) (κ₅ : Lft) (q₅ : Share) (b₅ o₅ n₅ : ℕ) (γ₅ : GName) (ys₅ : List (Ev .Denot)) (a₆ : usize .Denot) (a₂-ok : Is Pa a₂ (vals pa a₂)) (a₃-ok : Is u32 a₃ (vals (uint-data w32) a₃)) (a₄-ok : Is u32 a₄ (vals (uint-data w32) a₄)) (a₆-ok : Is usize a₆ (vals (uint-data w64) a₆)) (asked : Inside ys₁ (pointIn a₃ a₄ 1) × Few a₆ (rowResult ys₁ a₂ (pointIn a₃ a₄ 1))) → ent 𝓤 (⋆ 𝓤 H A (‵ (Shr u8 κ₁ b₁ o₁ n₁ γ₁ ys₁) ∷ ‵ (flft κ₁ q₁) ∷ ‵ (Mut Ev κ₅ b₅ o₅ n₅ γ₅ ys₅) ∷ ‵ (flft κ₅ q₅) ∷ [])) (⋆ 𝓤 H A (raw (ResultsResultRow′ 𝓤 H A mem run′ .pre (to-results-result-row κ₁ q₁ b₁ o₁ n₁ γ₁ ys₁ a₂ a₃ a₄ κ₅ q₅ b₅ o₅ n₅ γ₅ ys₅ a₆)) ∷ []))
-  asks-results-result-row κ₁ q₁ b₁ o₁ n₁ γ₁ ys₁ a₂ a₃ a₄ κ₅ q₅ b₅ o₅ n₅ γ₅ ys₅ a₆ a₂-ok a₃-ok a₄-ok a₆-ok asked =
-      qed W (‵ (Shr u8 κ₁ b₁ o₁ n₁ γ₁ ys₁) ∷ ‵ (flft κ₁ q₁) ∷ ‵ (Mut Ev κ₅ b₅ o₅ n₅ γ₅ ys₅) ∷ ‵ (flft κ₅ q₅) ∷ []) ∵ says ! asked $ nothing ! $ move ! (4 ∷ 0 ∷ []) $ join ! $ move ! (2 ∷ 0 ∷ []) $ join ! $ frame ! $ nothing ! $ owned ! usize (Is usize) ((uint-data w64) .makes M 𝓤 H A W) a₆ _ a₆-ok $ fjoin ! $ move ! (2 ∷ 0 ∷ []) $ fjoin ! $ owned ! u32 (Is u32) ((uint-data w32) .makes M 𝓤 H A W) a₄ _ a₄-ok $ fjoin ! $ owned ! u32 (Is u32) ((uint-data w32) .makes M 𝓤 H A W) a₃ _ a₃-ok $ fjoin ! $ owned ! Pa (Is Pa) (pa .makes M 𝓤 H A W) a₂ _ a₂-ok $ fjoin ! $ move ! (1 ∷ 0 ∷ []) $ fjoin ! $ done !
+  asks-results-result-mark-row : (κ₁ : Lft) (q₁ : Share) (b₁ o₁ n₁ : ℕ) (γ₁ : GName) (ys₁ : List (u8 .Denot)) (a₂ : u32 .Denot) (a₃ : u32 .Denot) (κ₄ : Lft) (q₄ : Share) (b₄ o₄ n₄ : ℕ) (γ₄ : GName) (ys₄ : List (Ev .Denot)) (a₅ : usize .Denot) (a₂-ok : Is u32 a₂ (vals (uint-data w32) a₂)) (a₃-ok : Is u32 a₃ (vals (uint-data w32) a₃)) (a₅-ok : Is usize a₅ (vals (uint-data w64) a₅)) (asked : Inside ys₁ (pointIn a₂ a₃ 1) × Few a₅ (rowResult ys₁ Delimiter (pointIn a₂ a₃ 1))) → ent 𝓤 (⋆ 𝓤 H A (‵ (Shr u8 κ₁ b₁ o₁ n₁ γ₁ ys₁) ∷ ‵ (flft κ₁ q₁) ∷ ‵ (Mut Ev κ₄ b₄ o₄ n₄ γ₄ ys₄) ∷ ‵ (flft κ₄ q₄) ∷ [])) (⋆ 𝓤 H A (raw (ResultsResultMarkRow′ 𝓤 H A mem run′ .pre (to-results-result-mark-row κ₁ q₁ b₁ o₁ n₁ γ₁ ys₁ a₂ a₃ κ₄ q₄ b₄ o₄ n₄ γ₄ ys₄ a₅)) ∷ []))
+  asks-results-result-mark-row κ₁ q₁ b₁ o₁ n₁ γ₁ ys₁ a₂ a₃ κ₄ q₄ b₄ o₄ n₄ γ₄ ys₄ a₅ a₂-ok a₃-ok a₅-ok asked =
+      qed W (‵ (Shr u8 κ₁ b₁ o₁ n₁ γ₁ ys₁) ∷ ‵ (flft κ₁ q₁) ∷ ‵ (Mut Ev κ₄ b₄ o₄ n₄ γ₄ ys₄) ∷ ‵ (flft κ₄ q₄) ∷ []) ∵ says ! asked $ nothing ! $ move ! (4 ∷ 0 ∷ []) $ join ! $ move ! (2 ∷ 0 ∷ []) $ join ! $ frame ! $ nothing ! $ owned ! usize (Is usize) ((uint-data w64) .makes M 𝓤 H A W) a₅ _ a₅-ok $ fjoin ! $ move ! (2 ∷ 0 ∷ []) $ fjoin ! $ owned ! u32 (Is u32) ((uint-data w32) .makes M 𝓤 H A W) a₃ _ a₃-ok $ fjoin ! $ owned ! u32 (Is u32) ((uint-data w32) .makes M 𝓤 H A W) a₂ _ a₂-ok $ fjoin ! $ move ! (1 ∷ 0 ∷ []) $ fjoin ! $ done !
 
   -- `results::result_break`: what its triple binds outside, and that the slices lent and their tokens give what it asks
   abbrev to-results-result-break : (κ₁ : Lft) (q₁ : Share) (b₁ o₁ n₁ : ℕ) (γ₁ : GName) (ys₁ : List (u8 .Denot)) (a₂ : Wn .Denot) (κ₃ : Lft) (q₃ : Share) (b₃ o₃ n₃ : ℕ) (γ₃ : GName) (ys₃ : List (Ev .Denot)) → ResultsResultBreak′ 𝓤 H A mem run′ .Ghost
@@ -146,13 +139,6 @@ module _ {M : Type 1} (𝓤 : URA M) (H : Heap 𝓤) (A : Atoms 𝓤) (W : Given
   asks-results-result-break : (κ₁ : Lft) (q₁ : Share) (b₁ o₁ n₁ : ℕ) (γ₁ : GName) (ys₁ : List (u8 .Denot)) (a₂ : Wn .Denot) (κ₃ : Lft) (q₃ : Share) (b₃ o₃ n₃ : ℕ) (γ₃ : GName) (ys₃ : List (Ev .Denot)) (a₂-ok : Is Wn a₂ (vals wn a₂)) (asked : AtEnd ys₁ a₂ × (a₂ .slot < 1000000000000)) → ent 𝓤 (⋆ 𝓤 H A (‵ (Shr u8 κ₁ b₁ o₁ n₁ γ₁ ys₁) ∷ ‵ (flft κ₁ q₁) ∷ ‵ (Mut Ev κ₃ b₃ o₃ n₃ γ₃ ys₃) ∷ ‵ (flft κ₃ q₃) ∷ [])) (⋆ 𝓤 H A (raw (ResultsResultBreak′ 𝓤 H A mem run′ .pre (to-results-result-break κ₁ q₁ b₁ o₁ n₁ γ₁ ys₁ a₂ κ₃ q₃ b₃ o₃ n₃ γ₃ ys₃)) ∷ []))
   asks-results-result-break κ₁ q₁ b₁ o₁ n₁ γ₁ ys₁ a₂ κ₃ q₃ b₃ o₃ n₃ γ₃ ys₃ a₂-ok asked =
       qed W (‵ (Shr u8 κ₁ b₁ o₁ n₁ γ₁ ys₁) ∷ ‵ (flft κ₁ q₁) ∷ ‵ (Mut Ev κ₃ b₃ o₃ n₃ γ₃ ys₃) ∷ ‵ (flft κ₃ q₃) ∷ []) ∵ says ! asked $ nothing ! $ move ! (4 ∷ 0 ∷ []) $ join ! $ move ! (2 ∷ 0 ∷ []) $ join ! $ frame ! $ nothing ! $ move ! (2 ∷ 0 ∷ []) $ fjoin ! $ owned ! Wn (Is Wn) (wn .makes M 𝓤 H A W) a₂ _ a₂-ok $ fjoin ! $ move ! (1 ∷ 0 ∷ []) $ fjoin ! $ done !
-
-  -- `results::mark_part`: what its triple binds outside, and that the slices lent and their tokens give what it asks
-  abbrev to-results-mark-part : ResultsMarkPart′ 𝓤 H A mem run′ .Ghost
-  to-results-mark-part = ((tt, tt, tt, tt, tt), tt)
-
-  asks-results-mark-part : ent 𝓤 (emp 𝓤) (ResultsMarkPart′ 𝓤 H A mem run′ .pre to-results-mark-part)
-  asks-results-mark-part = qed W [] ∵ nothing ! $ nothing ! $ nothing ! $ join ! $ frame ! $ done !
 
   -- `tables::head_exit`: what its triple binds outside, and that the slices lent and their tokens give what it asks
   abbrev to-tables-head-exit : (a₁ : Wn .Denot) → TablesHeadExit′ 𝓤 H A mem run′ .Ghost
@@ -200,9 +186,6 @@ module _ {M : Type 1} (𝓤 : URA M) (H : Heap 𝓤) (A : Atoms 𝓤) (W : Given
     abbrev ys5 : List (Ev .Denot)
     ys5 = set ys2 r3 r4
 
-    abbrev r6 : Pa .Denot
-    r6 = Body
-
     abbrev r7 : usize .Denot
     r7 = r3 + 1
 
@@ -217,9 +200,6 @@ module _ {M : Type 1} (𝓤 : URA M) (H : Heap 𝓤) (A : Atoms 𝓤) (W : Given
 
     abbrev ys9 : List (Ev .Denot)
     ys9 = wrote (r8 .slot) (breakResult bs (pointAt r8)) ys8
-
-    abbrev r10 : Pa .Denot
-    r10 = Delimiter
 
     abbrev r11 : Wn .Denot
     r11 = writtenAt (endOf (here bs (pointIn (r9 .line) (r9 .at) 1))) (r9 .slot + length (rowResult bs Delimiter (pointIn (r9 .line) (r9 .at) 1)))
@@ -236,7 +216,7 @@ module _ {M : Type 1} (𝓤 : URA M) (H : Heap 𝓤) (A : Atoms 𝓤) (W : Given
     abbrev r14 : Wn .Denot
     r14 = writtenAt (pointAt r11) (r11 .slot + 1)
 
-    module _ (𝓣 : Tables 𝓤 H) (known-tables-line-entry : Triple 𝓤 (𝓣 .C #sheet·tables·line-entry) (TablesLineEntry′ 𝓤 H A mem run′)) (known-slots-put : Triple 𝓤 (𝓣 .C #tokenizer·slots·put) (SlotsPut′ 𝓤 H A mem run′)) (known-tables-behind : Triple 𝓤 (𝓣 .C #sheet·tables·behind) (TablesBehind′ 𝓤 H A mem run′)) (known-tables-head-entry : Triple 𝓤 (𝓣 .C #sheet·tables·head-entry) (TablesHeadEntry′ 𝓤 H A mem run′)) (known-results-text-part : Triple 𝓤 (𝓣 .C #sheet·results·text-part) (ResultsTextPart′ 𝓤 H A mem run′)) (known-results-result-row : Triple 𝓤 (𝓣 .C #sheet·results·result-row) (ResultsResultRow′ 𝓤 H A mem run′)) (known-results-result-break : Triple 𝓤 (𝓣 .C #sheet·results·result-break) (ResultsResultBreak′ 𝓤 H A mem run′)) (known-results-mark-part : Triple 𝓤 (𝓣 .C #sheet·results·mark-part) (ResultsMarkPart′ 𝓤 H A mem run′)) (known-tables-head-exit : Triple 𝓤 (𝓣 .C #sheet·tables·head-exit) (TablesHeadExit′ 𝓤 H A mem run′)) (known-tables-one-more : Triple 𝓤 (𝓣 .C #sheet·tables·one-more) (TablesOneMore′ 𝓤 H A mem run′)) (l₀ l₁ l₂ l₃ l₄ l₅ l₆ l₇ l₈ l₉ l₁₀ l₁₁ l₁₂ l₁₃ l₁₄ l₁₅ l₁₆ l₁₇ l₁₈ l₁₉ l₂₀ l₂₁ l₂₂ l₂₃ l₂₄ l₂₅ : ℕ) where
+    module _ (𝓣 : Tables 𝓤 H) (known-tables-line-entry : Triple 𝓤 (𝓣 .C #sheet·tables·line-entry) (TablesLineEntry′ 𝓤 H A mem run′)) (known-slots-put : Triple 𝓤 (𝓣 .C #tokenizer·slots·put) (SlotsPut′ 𝓤 H A mem run′)) (known-tables-behind : Triple 𝓤 (𝓣 .C #sheet·tables·behind) (TablesBehind′ 𝓤 H A mem run′)) (known-tables-head-entry : Triple 𝓤 (𝓣 .C #sheet·tables·head-entry) (TablesHeadEntry′ 𝓤 H A mem run′)) (known-results-result-text-row : Triple 𝓤 (𝓣 .C #sheet·results·result-text-row) (ResultsResultTextRow′ 𝓤 H A mem run′)) (known-results-result-mark-row : Triple 𝓤 (𝓣 .C #sheet·results·result-mark-row) (ResultsResultMarkRow′ 𝓤 H A mem run′)) (known-results-result-break : Triple 𝓤 (𝓣 .C #sheet·results·result-break) (ResultsResultBreak′ 𝓤 H A mem run′)) (known-tables-head-exit : Triple 𝓤 (𝓣 .C #sheet·tables·head-exit) (TablesHeadExit′ 𝓤 H A mem run′)) (known-tables-one-more : Triple 𝓤 (𝓣 .C #sheet·tables·one-more) (TablesOneMore′ 𝓤 H A mem run′)) (l₀ l₁ l₂ l₃ l₄ l₅ l₆ l₇ l₈ l₉ l₁₀ l₁₁ l₁₂ l₁₃ l₁₄ l₁₅ l₁₆ l₁₇ l₁₈ l₁₉ l₂₀ l₂₁ l₂₂ l₂₃ l₂₄ : ℕ) where
       abbrev C : Calls 𝓤 H
       C = 𝓣 .C
 
@@ -244,119 +224,109 @@ module _ {M : Type 1} (𝓤 : URA M) (H : Heap 𝓤) (A : Atoms 𝓤) (W : Given
       Λ = 𝓣 .Λ
 
       abbrev En : Env 𝓤 H
-      En = (wn-ty, l₀) ∷ (sliceTy (tyRef (named 0) imm (pointee (u8 .written))), l₁) ∷ (tyInt w32, l₂) ∷ (tyInt w32, l₃) ∷ (sliceTy (tyRef (named 1) mut (pointee (Ev .written))), l₄) ∷ (tyInt w64, l₅) ∷ (tyInt w64, l₆) ∷ (wn-ty, l₇) ∷ (wn-ty, l₈) ∷ (wn-ty, l₉) ∷ (tyUnit, l₁₀) ∷ (tyRef erased mut (pointee (Ev .written)), l₁₁) ∷ (sliceTy (tyRef erased mut (pointee (Ev .written))), l₁₂) ∷ (ev-ty, l₁₃) ∷ (tyRef erased mut (pointee (Ev .written)), l₁₄) ∷ (sliceTy (tyRef erased mut (pointee (Ev .written))), l₁₅) ∷ (pa-ty, l₁₆) ∷ (tyRef erased mut (pointee (Ev .written)), l₁₇) ∷ (sliceTy (tyRef erased mut (pointee (Ev .written))), l₁₈) ∷ (tyInt w64, l₁₉) ∷ (tyRef erased mut (pointee (Ev .written)), l₂₀) ∷ (sliceTy (tyRef erased mut (pointee (Ev .written))), l₂₁) ∷ (tyRef erased mut (pointee (Ev .written)), l₂₂) ∷ (sliceTy (tyRef erased mut (pointee (Ev .written))), l₂₃) ∷ (tyRef erased mut (pointee (Ev .written)), l₂₄) ∷ (sliceTy (tyRef erased mut (pointee (Ev .written))), l₂₅) ∷ []
+      En = (wn-ty, l₀) ∷ (sliceTy (tyRef (named 0) imm (pointee (u8 .written))), l₁) ∷ (tyInt w32, l₂) ∷ (tyInt w32, l₃) ∷ (sliceTy (tyRef (named 1) mut (pointee (Ev .written))), l₄) ∷ (tyInt w64, l₅) ∷ (tyInt w64, l₆) ∷ (wn-ty, l₇) ∷ (wn-ty, l₈) ∷ (wn-ty, l₉) ∷ (tyUnit, l₁₀) ∷ (tyRef erased mut (pointee (Ev .written)), l₁₁) ∷ (sliceTy (tyRef erased mut (pointee (Ev .written))), l₁₂) ∷ (ev-ty, l₁₃) ∷ (tyRef erased mut (pointee (Ev .written)), l₁₄) ∷ (sliceTy (tyRef erased mut (pointee (Ev .written))), l₁₅) ∷ (tyRef erased mut (pointee (Ev .written)), l₁₆) ∷ (sliceTy (tyRef erased mut (pointee (Ev .written))), l₁₇) ∷ (tyInt w64, l₁₈) ∷ (tyRef erased mut (pointee (Ev .written)), l₁₉) ∷ (sliceTy (tyRef erased mut (pointee (Ev .written))), l₂₀) ∷ (tyRef erased mut (pointee (Ev .written)), l₂₁) ∷ (sliceTy (tyRef erased mut (pointee (Ev .written))), l₂₂) ∷ (tyRef erased mut (pointee (Ev .written)), l₂₃) ∷ (sliceTy (tyRef erased mut (pointee (Ev .written))), l₂₄) ∷ []
 
       -- the end of the body, by itself: there are fewer names there, and the check is quicker
-      leaves : (zs′ : List (Ev .Denot)) (zs′-len : length zs′ ≡ length ys) (r : Wn .Denot) (r-ok : Is Wn r (vals wn r)) (said : (r ≡ writtenAt (endOf (here bs (after bs (pointIn line start 1)))) (slot + length (headResult bs (pointIn line start 1)))) × (zs′ ≡ wrote slot (headResult bs (pointIn line start 1)) ys)) → Sq W (‵ (Shr u8 κ b o (length bs) γ bs) ∷ ‵ (flft κ q) ∷ ‵ (Mut Ev κ′ b′ o′ (length ys) γ′ zs′) ∷ ‵ (flft κ′ q′) ∷ ‵ (froom (sliceTy (tyRef erased mut (pointee (Ev .written)))) l₂₅ 0) ∷ ‵ (fdies (sliceTy (tyRef erased mut (pointee (Ev .written)))) l₂₅) ∷ ‵ (froom (tyRef erased mut (pointee (Ev .written))) l₂₄ 0) ∷ ‵ (fdies (tyRef erased mut (pointee (Ev .written))) l₂₄) ∷ ‵ (froom (sliceTy (tyRef erased mut (pointee (Ev .written)))) l₂₃ 0) ∷ ‵ (fdies (sliceTy (tyRef erased mut (pointee (Ev .written)))) l₂₃) ∷ ‵ (froom (tyRef erased mut (pointee (Ev .written))) l₂₂ 0) ∷ ‵ (fdies (tyRef erased mut (pointee (Ev .written))) l₂₂) ∷ ‵ (froom (sliceTy (tyRef erased mut (pointee (Ev .written)))) l₂₁ 0) ∷ ‵ (fdies (sliceTy (tyRef erased mut (pointee (Ev .written)))) l₂₁) ∷ ‵ (froom (tyRef erased mut (pointee (Ev .written))) l₂₀ 0) ∷ ‵ (fdies (tyRef erased mut (pointee (Ev .written))) l₂₀) ∷ ‵ (froom (tyInt w64) l₁₉ 0) ∷ ‵ (fdies (tyInt w64) l₁₉) ∷ ‵ (froom (sliceTy (tyRef erased mut (pointee (Ev .written)))) l₁₈ 0) ∷ ‵ (fdies (sliceTy (tyRef erased mut (pointee (Ev .written)))) l₁₈) ∷ ‵ (froom (tyRef erased mut (pointee (Ev .written))) l₁₇ 0) ∷ ‵ (fdies (tyRef erased mut (pointee (Ev .written))) l₁₇) ∷ ‵ (froom pa-ty l₁₆ 0) ∷ ‵ (fdies pa-ty l₁₆) ∷ ‵ (froom (sliceTy (tyRef erased mut (pointee (Ev .written)))) l₁₅ 0) ∷ ‵ (fdies (sliceTy (tyRef erased mut (pointee (Ev .written)))) l₁₅) ∷ ‵ (froom (tyRef erased mut (pointee (Ev .written))) l₁₄ 0) ∷ ‵ (fdies (tyRef erased mut (pointee (Ev .written))) l₁₄) ∷ ‵ (froom ev-ty l₁₃ 0) ∷ ‵ (fdies ev-ty l₁₃) ∷ ‵ (froom (sliceTy (tyRef erased mut (pointee (Ev .written)))) l₁₂ 0) ∷ ‵ (fdies (sliceTy (tyRef erased mut (pointee (Ev .written)))) l₁₂) ∷ ‵ (froom (tyRef erased mut (pointee (Ev .written))) l₁₁ 0) ∷ ‵ (fdies (tyRef erased mut (pointee (Ev .written))) l₁₁) ∷ ‵ (froom tyUnit l₁₀ 0) ∷ ‵ (fdies tyUnit l₁₀) ∷ ‵ (froom wn-ty l₉ 0) ∷ ‵ (fdies wn-ty l₉) ∷ ‵ (froom wn-ty l₈ 0) ∷ ‵ (fdies wn-ty l₈) ∷ ‵ (froom wn-ty l₇ 0) ∷ ‵ (fdies wn-ty l₇) ∷ ‵ (froom (tyInt w64) l₆ 0) ∷ ‵ (fdies (tyInt w64) l₆) ∷ ‵ (froom (tyInt w64) l₅ 0) ∷ ‵ (fdies (tyInt w64) l₅) ∷ ‵ (froom (sliceTy (tyRef (named 1) mut (pointee (Ev .written)))) l₄ 0) ∷ ‵ (fdies (sliceTy (tyRef (named 1) mut (pointee (Ev .written)))) l₄) ∷ ‵ (froom (tyInt w32) l₃ 0) ∷ ‵ (fdies (tyInt w32) l₃) ∷ ‵ (froom (tyInt w32) l₂ 0) ∷ ‵ (fdies (tyInt w32) l₂) ∷ ‵ (froom (sliceTy (tyRef (named 0) imm (pointee (u8 .written)))) l₁ 0) ∷ ‵ (fdies (sliceTy (tyRef (named 0) imm (pointee (u8 .written)))) l₁) ∷ ‵ (fat fullShare wn-ty l₀ 0 (wn .val r)) ∷ ‵ (fdies wn-ty l₀) ∷ []) (runs C Λ En code-mir.t-27 (atRet En Post))
+      leaves : (zs′ : List (Ev .Denot)) (zs′-len : length zs′ ≡ length ys) (r : Wn .Denot) (r-ok : Is Wn r (vals wn r)) (said : (r ≡ writtenAt (endOf (here bs (after bs (pointIn line start 1)))) (slot + length (headResult bs (pointIn line start 1)))) × (zs′ ≡ wrote slot (headResult bs (pointIn line start 1)) ys)) → Sq W (‵ (Shr u8 κ b o (length bs) γ bs) ∷ ‵ (flft κ q) ∷ ‵ (Mut Ev κ′ b′ o′ (length ys) γ′ zs′) ∷ ‵ (flft κ′ q′) ∷ ‵ (froom (sliceTy (tyRef erased mut (pointee (Ev .written)))) l₂₄ 0) ∷ ‵ (fdies (sliceTy (tyRef erased mut (pointee (Ev .written)))) l₂₄) ∷ ‵ (froom (tyRef erased mut (pointee (Ev .written))) l₂₃ 0) ∷ ‵ (fdies (tyRef erased mut (pointee (Ev .written))) l₂₃) ∷ ‵ (froom (sliceTy (tyRef erased mut (pointee (Ev .written)))) l₂₂ 0) ∷ ‵ (fdies (sliceTy (tyRef erased mut (pointee (Ev .written)))) l₂₂) ∷ ‵ (froom (tyRef erased mut (pointee (Ev .written))) l₂₁ 0) ∷ ‵ (fdies (tyRef erased mut (pointee (Ev .written))) l₂₁) ∷ ‵ (froom (sliceTy (tyRef erased mut (pointee (Ev .written)))) l₂₀ 0) ∷ ‵ (fdies (sliceTy (tyRef erased mut (pointee (Ev .written)))) l₂₀) ∷ ‵ (froom (tyRef erased mut (pointee (Ev .written))) l₁₉ 0) ∷ ‵ (fdies (tyRef erased mut (pointee (Ev .written))) l₁₉) ∷ ‵ (froom (tyInt w64) l₁₈ 0) ∷ ‵ (fdies (tyInt w64) l₁₈) ∷ ‵ (froom (sliceTy (tyRef erased mut (pointee (Ev .written)))) l₁₇ 0) ∷ ‵ (fdies (sliceTy (tyRef erased mut (pointee (Ev .written)))) l₁₇) ∷ ‵ (froom (tyRef erased mut (pointee (Ev .written))) l₁₆ 0) ∷ ‵ (fdies (tyRef erased mut (pointee (Ev .written))) l₁₆) ∷ ‵ (froom (sliceTy (tyRef erased mut (pointee (Ev .written)))) l₁₅ 0) ∷ ‵ (fdies (sliceTy (tyRef erased mut (pointee (Ev .written)))) l₁₅) ∷ ‵ (froom (tyRef erased mut (pointee (Ev .written))) l₁₄ 0) ∷ ‵ (fdies (tyRef erased mut (pointee (Ev .written))) l₁₄) ∷ ‵ (froom ev-ty l₁₃ 0) ∷ ‵ (fdies ev-ty l₁₃) ∷ ‵ (froom (sliceTy (tyRef erased mut (pointee (Ev .written)))) l₁₂ 0) ∷ ‵ (fdies (sliceTy (tyRef erased mut (pointee (Ev .written)))) l₁₂) ∷ ‵ (froom (tyRef erased mut (pointee (Ev .written))) l₁₁ 0) ∷ ‵ (fdies (tyRef erased mut (pointee (Ev .written))) l₁₁) ∷ ‵ (froom tyUnit l₁₀ 0) ∷ ‵ (fdies tyUnit l₁₀) ∷ ‵ (froom wn-ty l₉ 0) ∷ ‵ (fdies wn-ty l₉) ∷ ‵ (froom wn-ty l₈ 0) ∷ ‵ (fdies wn-ty l₈) ∷ ‵ (froom wn-ty l₇ 0) ∷ ‵ (fdies wn-ty l₇) ∷ ‵ (froom (tyInt w64) l₆ 0) ∷ ‵ (fdies (tyInt w64) l₆) ∷ ‵ (froom (tyInt w64) l₅ 0) ∷ ‵ (fdies (tyInt w64) l₅) ∷ ‵ (froom (sliceTy (tyRef (named 1) mut (pointee (Ev .written)))) l₄ 0) ∷ ‵ (fdies (sliceTy (tyRef (named 1) mut (pointee (Ev .written)))) l₄) ∷ ‵ (froom (tyInt w32) l₃ 0) ∷ ‵ (fdies (tyInt w32) l₃) ∷ ‵ (froom (tyInt w32) l₂ 0) ∷ ‵ (fdies (tyInt w32) l₂) ∷ ‵ (froom (sliceTy (tyRef (named 0) imm (pointee (u8 .written)))) l₁ 0) ∷ ‵ (fdies (sliceTy (tyRef (named 0) imm (pointee (u8 .written)))) l₁) ∷ ‵ (fat fullShare wn-ty l₀ 0 (wn .val r)) ∷ ‵ (fdies wn-ty l₀) ∷ []) (runs C Λ En code-mir.t-25 (atRet En Post))
       leaves zs′ zs′-len r r-ok said =
-          returns ! (look ! 54 refl) $ forget ! 54 refl $ move ! (54 ∷ 55 ∷ []) $ free1 ! $ move ! (52 ∷ 53 ∷ []) $ free1 ! $ move ! (50 ∷ 51 ∷ []) $ free1 ! $ move ! (48 ∷ 49 ∷ []) $ free1 ! $ move ! (46 ∷ 47 ∷ []) $ free1 ! $ move ! (44 ∷ 45 ∷ []) $ free1 ! $ move ! (42 ∷ 43 ∷ []) $ free1 ! $ move ! (40 ∷ 41 ∷ []) $ free1 ! $ move ! (38 ∷ 39 ∷ []) $ free1 ! $ move ! (36 ∷ 37 ∷ []) $ free1 ! $ move ! (34 ∷ 35 ∷ []) $ free1 ! $ move ! (32 ∷ 33 ∷ []) $ free1 ! $ move ! (30 ∷ 31 ∷ []) $ free1 ! $ move ! (28 ∷ 29 ∷ []) $ free1 ! $ move ! (26 ∷ 27 ∷ []) $ free1 ! $ move ! (24 ∷ 25 ∷ []) $ free1 ! $ move ! (22 ∷ 23 ∷ []) $ free1 ! $ move ! (20 ∷ 21 ∷ []) $ free1 ! $ move ! (18 ∷ 19 ∷ []) $ free1 ! $ move ! (16 ∷ 17 ∷ []) $ free1 ! $ move ! (14 ∷ 15 ∷ []) $ free1 ! $ move ! (12 ∷ 13 ∷ []) $ free1 ! $ move ! (10 ∷ 11 ∷ []) $ free1 ! $ move ! (8 ∷ 9 ∷ []) $ free1 ! $ move ! (6 ∷ 7 ∷ []) $ free1 ! $ move ! (4 ∷ 5 ∷ []) $ free1 ! $ free0 ! $ by ! (exits zs′ zs′-len r r-ok said)
+          returns ! (look ! 52 refl) $ forget ! 52 refl $ move ! (52 ∷ 53 ∷ []) $ free1 ! $ move ! (50 ∷ 51 ∷ []) $ free1 ! $ move ! (48 ∷ 49 ∷ []) $ free1 ! $ move ! (46 ∷ 47 ∷ []) $ free1 ! $ move ! (44 ∷ 45 ∷ []) $ free1 ! $ move ! (42 ∷ 43 ∷ []) $ free1 ! $ move ! (40 ∷ 41 ∷ []) $ free1 ! $ move ! (38 ∷ 39 ∷ []) $ free1 ! $ move ! (36 ∷ 37 ∷ []) $ free1 ! $ move ! (34 ∷ 35 ∷ []) $ free1 ! $ move ! (32 ∷ 33 ∷ []) $ free1 ! $ move ! (30 ∷ 31 ∷ []) $ free1 ! $ move ! (28 ∷ 29 ∷ []) $ free1 ! $ move ! (26 ∷ 27 ∷ []) $ free1 ! $ move ! (24 ∷ 25 ∷ []) $ free1 ! $ move ! (22 ∷ 23 ∷ []) $ free1 ! $ move ! (20 ∷ 21 ∷ []) $ free1 ! $ move ! (18 ∷ 19 ∷ []) $ free1 ! $ move ! (16 ∷ 17 ∷ []) $ free1 ! $ move ! (14 ∷ 15 ∷ []) $ free1 ! $ move ! (12 ∷ 13 ∷ []) $ free1 ! $ move ! (10 ∷ 11 ∷ []) $ free1 ! $ move ! (8 ∷ 9 ∷ []) $ free1 ! $ move ! (6 ∷ 7 ∷ []) $ free1 ! $ move ! (4 ∷ 5 ∷ []) $ free1 ! $ free0 ! $ by ! (exits zs′ zs′-len r r-ok said)
 
       -- the body, from the entry on
-      -- _25: 4; _24: 6; _23: 8; _22: 10; _21: 12; _20: 14; _19: 16; _18: 18; _17: 20; _16: 22; _15: 24; _14: 26; _13: 28; _12: 30; _11: 32; _10: 34; _9: 36; _8: 38; _7: 40; _6: 42; _5: 44; _4: 46; _3: 48; _2: 50; _1: 52; _0: 54
-      body : Sq W (‵ (Shr u8 κ b o (length bs) γ bs) ∷ ‵ (flft κ q) ∷ ‵ (Mut Ev κ′ b′ o′ (length ys) γ′ ys) ∷ ‵ (flft κ′ q′) ∷ ‵ (froom (sliceTy (tyRef erased mut (pointee (Ev .written)))) l₂₅ 0) ∷ ‵ (fdies (sliceTy (tyRef erased mut (pointee (Ev .written)))) l₂₅) ∷ ‵ (froom (tyRef erased mut (pointee (Ev .written))) l₂₄ 0) ∷ ‵ (fdies (tyRef erased mut (pointee (Ev .written))) l₂₄) ∷ ‵ (froom (sliceTy (tyRef erased mut (pointee (Ev .written)))) l₂₃ 0) ∷ ‵ (fdies (sliceTy (tyRef erased mut (pointee (Ev .written)))) l₂₃) ∷ ‵ (froom (tyRef erased mut (pointee (Ev .written))) l₂₂ 0) ∷ ‵ (fdies (tyRef erased mut (pointee (Ev .written))) l₂₂) ∷ ‵ (froom (sliceTy (tyRef erased mut (pointee (Ev .written)))) l₂₁ 0) ∷ ‵ (fdies (sliceTy (tyRef erased mut (pointee (Ev .written)))) l₂₁) ∷ ‵ (froom (tyRef erased mut (pointee (Ev .written))) l₂₀ 0) ∷ ‵ (fdies (tyRef erased mut (pointee (Ev .written))) l₂₀) ∷ ‵ (froom (tyInt w64) l₁₉ 0) ∷ ‵ (fdies (tyInt w64) l₁₉) ∷ ‵ (froom (sliceTy (tyRef erased mut (pointee (Ev .written)))) l₁₈ 0) ∷ ‵ (fdies (sliceTy (tyRef erased mut (pointee (Ev .written)))) l₁₈) ∷ ‵ (froom (tyRef erased mut (pointee (Ev .written))) l₁₇ 0) ∷ ‵ (fdies (tyRef erased mut (pointee (Ev .written))) l₁₇) ∷ ‵ (froom pa-ty l₁₆ 0) ∷ ‵ (fdies pa-ty l₁₆) ∷ ‵ (froom (sliceTy (tyRef erased mut (pointee (Ev .written)))) l₁₅ 0) ∷ ‵ (fdies (sliceTy (tyRef erased mut (pointee (Ev .written)))) l₁₅) ∷ ‵ (froom (tyRef erased mut (pointee (Ev .written))) l₁₄ 0) ∷ ‵ (fdies (tyRef erased mut (pointee (Ev .written))) l₁₄) ∷ ‵ (froom ev-ty l₁₃ 0) ∷ ‵ (fdies ev-ty l₁₃) ∷ ‵ (froom (sliceTy (tyRef erased mut (pointee (Ev .written)))) l₁₂ 0) ∷ ‵ (fdies (sliceTy (tyRef erased mut (pointee (Ev .written)))) l₁₂) ∷ ‵ (froom (tyRef erased mut (pointee (Ev .written))) l₁₁ 0) ∷ ‵ (fdies (tyRef erased mut (pointee (Ev .written))) l₁₁) ∷ ‵ (froom tyUnit l₁₀ 0) ∷ ‵ (fdies tyUnit l₁₀) ∷ ‵ (froom wn-ty l₉ 0) ∷ ‵ (fdies wn-ty l₉) ∷ ‵ (froom wn-ty l₈ 0) ∷ ‵ (fdies wn-ty l₈) ∷ ‵ (froom wn-ty l₇ 0) ∷ ‵ (fdies wn-ty l₇) ∷ ‵ (froom (tyInt w64) l₆ 0) ∷ ‵ (fdies (tyInt w64) l₆) ∷ ‵ (fat fullShare (tyInt w64) l₅ 0 (vint w64 slot)) ∷ ‵ (fdies (tyInt w64) l₅) ∷ ‵ (fat fullShare (sliceTy (tyRef (named 1) mut (pointee (Ev .written)))) l₄ 0 (sliceVal (b′, o′) (length ys))) ∷ ‵ (fdies (sliceTy (tyRef (named 1) mut (pointee (Ev .written)))) l₄) ∷ ‵ (fat fullShare (tyInt w32) l₃ 0 (vint w32 start)) ∷ ‵ (fdies (tyInt w32) l₃) ∷ ‵ (fat fullShare (tyInt w32) l₂ 0 (vint w32 line)) ∷ ‵ (fdies (tyInt w32) l₂) ∷ ‵ (fat fullShare (sliceTy (tyRef (named 0) imm (pointee (u8 .written)))) l₁ 0 (sliceVal (b, o) (length bs))) ∷ ‵ (fdies (sliceTy (tyRef (named 0) imm (pointee (u8 .written)))) l₁) ∷ ‵ (froom wn-ty l₀ 0) ∷ ‵ (fdies wn-ty l₀) ∷ []) (runs C Λ En code-mir.t-1 (atRet En Post))
+      -- _24: 4; _23: 6; _22: 8; _21: 10; _20: 12; _19: 14; _18: 16; _17: 18; _16: 20; _15: 22; _14: 24; _13: 26; _12: 28; _11: 30; _10: 32; _9: 34; _8: 36; _7: 38; _6: 40; _5: 42; _4: 44; _3: 46; _2: 48; _1: 50; _0: 52
+      body : Sq W (‵ (Shr u8 κ b o (length bs) γ bs) ∷ ‵ (flft κ q) ∷ ‵ (Mut Ev κ′ b′ o′ (length ys) γ′ ys) ∷ ‵ (flft κ′ q′) ∷ ‵ (froom (sliceTy (tyRef erased mut (pointee (Ev .written)))) l₂₄ 0) ∷ ‵ (fdies (sliceTy (tyRef erased mut (pointee (Ev .written)))) l₂₄) ∷ ‵ (froom (tyRef erased mut (pointee (Ev .written))) l₂₃ 0) ∷ ‵ (fdies (tyRef erased mut (pointee (Ev .written))) l₂₃) ∷ ‵ (froom (sliceTy (tyRef erased mut (pointee (Ev .written)))) l₂₂ 0) ∷ ‵ (fdies (sliceTy (tyRef erased mut (pointee (Ev .written)))) l₂₂) ∷ ‵ (froom (tyRef erased mut (pointee (Ev .written))) l₂₁ 0) ∷ ‵ (fdies (tyRef erased mut (pointee (Ev .written))) l₂₁) ∷ ‵ (froom (sliceTy (tyRef erased mut (pointee (Ev .written)))) l₂₀ 0) ∷ ‵ (fdies (sliceTy (tyRef erased mut (pointee (Ev .written)))) l₂₀) ∷ ‵ (froom (tyRef erased mut (pointee (Ev .written))) l₁₉ 0) ∷ ‵ (fdies (tyRef erased mut (pointee (Ev .written))) l₁₉) ∷ ‵ (froom (tyInt w64) l₁₈ 0) ∷ ‵ (fdies (tyInt w64) l₁₈) ∷ ‵ (froom (sliceTy (tyRef erased mut (pointee (Ev .written)))) l₁₇ 0) ∷ ‵ (fdies (sliceTy (tyRef erased mut (pointee (Ev .written)))) l₁₇) ∷ ‵ (froom (tyRef erased mut (pointee (Ev .written))) l₁₆ 0) ∷ ‵ (fdies (tyRef erased mut (pointee (Ev .written))) l₁₆) ∷ ‵ (froom (sliceTy (tyRef erased mut (pointee (Ev .written)))) l₁₅ 0) ∷ ‵ (fdies (sliceTy (tyRef erased mut (pointee (Ev .written)))) l₁₅) ∷ ‵ (froom (tyRef erased mut (pointee (Ev .written))) l₁₄ 0) ∷ ‵ (fdies (tyRef erased mut (pointee (Ev .written))) l₁₄) ∷ ‵ (froom ev-ty l₁₃ 0) ∷ ‵ (fdies ev-ty l₁₃) ∷ ‵ (froom (sliceTy (tyRef erased mut (pointee (Ev .written)))) l₁₂ 0) ∷ ‵ (fdies (sliceTy (tyRef erased mut (pointee (Ev .written)))) l₁₂) ∷ ‵ (froom (tyRef erased mut (pointee (Ev .written))) l₁₁ 0) ∷ ‵ (fdies (tyRef erased mut (pointee (Ev .written))) l₁₁) ∷ ‵ (froom tyUnit l₁₀ 0) ∷ ‵ (fdies tyUnit l₁₀) ∷ ‵ (froom wn-ty l₉ 0) ∷ ‵ (fdies wn-ty l₉) ∷ ‵ (froom wn-ty l₈ 0) ∷ ‵ (fdies wn-ty l₈) ∷ ‵ (froom wn-ty l₇ 0) ∷ ‵ (fdies wn-ty l₇) ∷ ‵ (froom (tyInt w64) l₆ 0) ∷ ‵ (fdies (tyInt w64) l₆) ∷ ‵ (fat fullShare (tyInt w64) l₅ 0 (vint w64 slot)) ∷ ‵ (fdies (tyInt w64) l₅) ∷ ‵ (fat fullShare (sliceTy (tyRef (named 1) mut (pointee (Ev .written)))) l₄ 0 (sliceVal (b′, o′) (length ys))) ∷ ‵ (fdies (sliceTy (tyRef (named 1) mut (pointee (Ev .written)))) l₄) ∷ ‵ (fat fullShare (tyInt w32) l₃ 0 (vint w32 start)) ∷ ‵ (fdies (tyInt w32) l₃) ∷ ‵ (fat fullShare (tyInt w32) l₂ 0 (vint w32 line)) ∷ ‵ (fdies (tyInt w32) l₂) ∷ ‵ (fat fullShare (sliceTy (tyRef (named 0) imm (pointee (u8 .written)))) l₁ 0 (sliceVal (b, o) (length bs))) ∷ ‵ (fdies (sliceTy (tyRef (named 0) imm (pointee (u8 .written)))) l₁) ∷ ‵ (froom wn-ty l₀ 0) ∷ ‵ (fdies wn-ty l₀) ∷ []) (runs C Λ En code-mir.t-1 (atRet En Post))
       body =
-          assigns ! (addr ! (from ! (fld ! refl (hop ! (look-in ! 46 (sub ! 0 refl (whole !))) (stop !))))) (from ! (stop !)) (init ! 32 refl (tt, tt)) $  -- _11 := &(*_4.0)
-          assigns ! (agg ! (and-then ! (load ! (from ! (stop !)) (look ! 32 refl)) (and-then ! (load ! (from ! (fld ! refl (stop !))) (look-in ! 46 (sub ! 1 refl (whole !)))) (no-more !)))) (from ! (stop !)) (init ! 30 refl (tt, (tt, (record { fits = room′ .0 }, tt)))) $  -- _12 := {_11, _4.1}
+          assigns ! (addr ! (from ! (fld ! refl (hop ! (look-in ! 44 (sub ! 0 refl (whole !))) (stop !))))) (from ! (stop !)) (init ! 30 refl (tt, tt)) $  -- _11 := &(*_4.0)
+          assigns ! (agg ! (and-then ! (load ! (from ! (stop !)) (look ! 30 refl)) (and-then ! (load ! (from ! (fld ! refl (stop !))) (look-in ! 44 (sub ! 1 refl (whole !)))) (no-more !)))) (from ! (stop !)) (init ! 28 refl (tt, (tt, (record { fits = room′ .0 }, tt)))) $  -- _12 := {_11, _4.1}
           -- _13 := tables::line_entry(4u8, _2, _3)
           use0 W (raw (TablesLineEntry′ 𝓤 H A mem run′ .pre (to-tables-line-entry 4 line start))) (asks-tables-line-entry 4 line start (refl, lit< tt) (refl, line-fits) (refl, start-fits)) $
-          calls-plain ! (fmOf 𝓤 H (W .laws) 𝓣) tables-line-entry.ended (tables-line-entry.clauses 𝓤 H A mem run′) known-tables-line-entry (to-tables-line-entry 4 line start) ev r1 (λ r ws. id⊢ 𝓤 _) (and-then ! (lit ! tt) (and-then ! (load ! (from ! (stop !)) (look ! 51 refl)) (and-then ! (load ! (from ! (stop !)) (look ! 49 refl)) (no-more !)))) (λ ok1.
+          calls-plain ! (fmOf 𝓤 H (W .laws) 𝓣) tables-line-entry.ended (tables-line-entry.clauses 𝓤 H A mem run′) known-tables-line-entry (to-tables-line-entry 4 line start) ev r1 (λ r ws. id⊢ 𝓤 _) (and-then ! (lit ! tt) (and-then ! (load ! (from ! (stop !)) (look ! 49 refl)) (and-then ! (load ! (from ! (stop !)) (look ! 47 refl)) (no-more !)))) (λ ok1.
           drop ! $
-          land ! (from ! (stop !)) (init ! 28 refl (typed ev W r1 ok1 .0)) $
+          land ! (from ! (stop !)) (init ! 26 refl (typed ev W r1 ok1 .0)) $
           -- _10 := slots::put(_12, _5, _13)
           move ! (2 ∷ 3 ∷ []) $ lends ! tt Ev ys b′ o′ (length ys) refl room′ (λ ν2a δ2a.
           cut (‵ (Mut Ev (ν2a ∷ []) b′ o′ (length ys) δ2a ys) ∷ ‵ (flft (ν2a ∷ []) fullShare) ∷ []) (raw (SlotsPut′ 𝓤 H A mem run′ .pre (to-slots-put (ν2a ∷ []) fullShare b′ o′ (length ys) δ2a ys slot r1)) ∷ []) _ (asks-slots-put (ν2a ∷ []) fullShare b′ o′ (length ys) δ2a ys slot r1 (refl, slot-fits) ok1) $
-          calls-unit ! (fmOf 𝓤 H (W .laws) 𝓣) slots-put.ended (slots-put.clauses 𝓤 H A mem run′) known-slots-put (to-slots-put (ν2a ∷ []) fullShare b′ o′ (length ys) δ2a ys slot r1) at-unit (λ ws. ws .0 ≡ ys2) (λ r ws. id⊢ 𝓤 _) (and-then ! (load ! (from ! (stop !)) (look ! 30 refl)) (and-then ! (load ! (from ! (stop !)) (look ! 44 refl)) (and-then ! (load ! (from ! (stop !)) (look ! 28 refl)) (no-more !)))) (λ ws2 e2.
+          calls-unit ! (fmOf 𝓤 H (W .laws) 𝓣) slots-put.ended (slots-put.clauses 𝓤 H A mem run′) known-slots-put (to-slots-put (ν2a ∷ []) fullShare b′ o′ (length ys) δ2a ys slot r1) at-unit (λ ws. ws .0 ≡ ys2) (λ r ws. id⊢ 𝓤 _) (and-then ! (load ! (from ! (stop !)) (look ! 28 refl)) (and-then ! (load ! (from ! (stop !)) (look ! 42 refl)) (and-then ! (load ! (from ! (stop !)) (look ! 26 refl)) (no-more !)))) (λ ws2 e2.
           fsplit ! $ fsplit ! $ move ! (1 ∷ []) $ feqL ! (λ len2a. move ! (1 ∷ []) $ drop ! $ move ! (1 ∷ []) $ use1 W (‵ (flft (ν2a ∷ []) fullShare) ⊛ ‵ ftrue) (id⊢ 𝓤 _) $ split ! $ move ! (1 ∷ []) $ drop ! $ move ! (0 ∷ 2 ∷ 1 ∷ []) $ home ! tt Ev ys (ws2 .0) ys2 b′ o′ (length ys) refl room′ len2a e2 (λ ys2-len.
-          land ! (from ! (stop !)) (init ! 34 refl (tt, tt)) $
+          land ! (from ! (stop !)) (init ! 32 refl (tt, tt)) $
           -- _6 := tables::behind(_5)
           use0 W (raw (TablesBehind′ 𝓤 H A mem run′ .pre (to-tables-behind slot))) (asks-tables-behind slot (refl, slot-fits) (omega (arith, head-small bs (pointIn line start 1) slot (asked .0) (asked .1) (asked .2)))) $
-          calls-plain ! (fmOf 𝓤 H (W .laws) 𝓣) tables-behind.ended (tables-behind.clauses 𝓤 H A mem run′) known-tables-behind (to-tables-behind slot) (uint-data w64) r3 (λ r ws. id⊢ 𝓤 _) (and-then ! (load ! (from ! (stop !)) (look ! 45 refl)) (no-more !)) (λ ok3.
+          calls-plain ! (fmOf 𝓤 H (W .laws) 𝓣) tables-behind.ended (tables-behind.clauses 𝓤 H A mem run′) known-tables-behind (to-tables-behind slot) (uint-data w64) r3 (λ r ws. id⊢ 𝓤 _) (and-then ! (load ! (from ! (stop !)) (look ! 43 refl)) (no-more !)) (λ ok3.
           drop ! $
-          land ! (from ! (stop !)) (init ! 42 refl (tt, record { fits = ok3 .1 })) $
-          assigns ! (addr ! (from ! (fld ! refl (hop ! (look-in ! 46 (sub ! 0 refl (whole !))) (stop !))))) (from ! (stop !)) (init ! 26 refl (tt, tt)) $  -- _14 := &(*_4.0)
-          assigns ! (agg ! (and-then ! (load ! (from ! (stop !)) (look ! 26 refl)) (and-then ! (load ! (from ! (fld ! refl (stop !))) (look-in ! 46 (sub ! 1 refl (whole !)))) (no-more !)))) (from ! (stop !)) (init ! 24 refl (tt, (tt, (record { fits = room′ .0 }, tt)))) $  -- _15 := {_14, _4.1}
+          land ! (from ! (stop !)) (init ! 40 refl (tt, record { fits = ok3 .1 })) $
+          assigns ! (addr ! (from ! (fld ! refl (hop ! (look-in ! 44 (sub ! 0 refl (whole !))) (stop !))))) (from ! (stop !)) (init ! 24 refl (tt, tt)) $  -- _14 := &(*_4.0)
+          assigns ! (agg ! (and-then ! (load ! (from ! (stop !)) (look ! 24 refl)) (and-then ! (load ! (from ! (fld ! refl (stop !))) (look-in ! 44 (sub ! 1 refl (whole !)))) (no-more !)))) (from ! (stop !)) (init ! 22 refl (tt, (tt, (record { fits = room′ .0 }, tt)))) $  -- _15 := {_14, _4.1}
           -- _13 := tables::head_entry(_2, _3)
           use0 W (raw (TablesHeadEntry′ 𝓤 H A mem run′ .pre (to-tables-head-entry line start))) (asks-tables-head-entry line start (refl, line-fits) (refl, start-fits)) $
-          calls-plain ! (fmOf 𝓤 H (W .laws) 𝓣) tables-head-entry.ended (tables-head-entry.clauses 𝓤 H A mem run′) known-tables-head-entry (to-tables-head-entry line start) ev r4 (λ r ws. id⊢ 𝓤 _) (and-then ! (load ! (from ! (stop !)) (look ! 51 refl)) (and-then ! (load ! (from ! (stop !)) (look ! 49 refl)) (no-more !))) (λ ok4.
+          calls-plain ! (fmOf 𝓤 H (W .laws) 𝓣) tables-head-entry.ended (tables-head-entry.clauses 𝓤 H A mem run′) known-tables-head-entry (to-tables-head-entry line start) ev r4 (λ r ws. id⊢ 𝓤 _) (and-then ! (load ! (from ! (stop !)) (look ! 49 refl)) (and-then ! (load ! (from ! (stop !)) (look ! 47 refl)) (no-more !))) (λ ok4.
           drop ! $
-          land ! (from ! (stop !)) (store ! 28 refl (typed ev W r4 ok4 .0)) $
+          land ! (from ! (stop !)) (store ! 26 refl (typed ev W r4 ok4 .0)) $
           -- _10 := slots::put(_15, _6, _13)
           lends ! tt Ev ys2 b′ o′ (length ys) ys2-len room′ (λ ν5a δ5a.
           cut (‵ (Mut Ev (ν5a ∷ []) b′ o′ (length ys) δ5a ys2) ∷ ‵ (flft (ν5a ∷ []) fullShare) ∷ []) (raw (SlotsPut′ 𝓤 H A mem run′ .pre (to-slots-put (ν5a ∷ []) fullShare b′ o′ (length ys) δ5a ys2 r3 r4)) ∷ []) _ (asks-slots-put (ν5a ∷ []) fullShare b′ o′ (length ys) δ5a ys2 r3 r4 ok3 ok4) $
-          calls-unit ! (fmOf 𝓤 H (W .laws) 𝓣) slots-put.ended (slots-put.clauses 𝓤 H A mem run′) known-slots-put (to-slots-put (ν5a ∷ []) fullShare b′ o′ (length ys) δ5a ys2 r3 r4) at-unit (λ ws. ws .0 ≡ ys5) (λ r ws. id⊢ 𝓤 _) (and-then ! (load ! (from ! (stop !)) (look ! 24 refl)) (and-then ! (load ! (from ! (stop !)) (look ! 42 refl)) (and-then ! (load ! (from ! (stop !)) (look ! 28 refl)) (no-more !)))) (λ ws5 e5.
+          calls-unit ! (fmOf 𝓤 H (W .laws) 𝓣) slots-put.ended (slots-put.clauses 𝓤 H A mem run′) known-slots-put (to-slots-put (ν5a ∷ []) fullShare b′ o′ (length ys) δ5a ys2 r3 r4) at-unit (λ ws. ws .0 ≡ ys5) (λ r ws. id⊢ 𝓤 _) (and-then ! (load ! (from ! (stop !)) (look ! 22 refl)) (and-then ! (load ! (from ! (stop !)) (look ! 40 refl)) (and-then ! (load ! (from ! (stop !)) (look ! 26 refl)) (no-more !)))) (λ ws5 e5.
           fsplit ! $ fsplit ! $ move ! (1 ∷ []) $ feqL ! (λ len5a. move ! (1 ∷ []) $ drop ! $ move ! (1 ∷ []) $ use1 W (‵ (flft (ν5a ∷ []) fullShare) ⊛ ‵ ftrue) (id⊢ 𝓤 _) $ split ! $ move ! (1 ∷ []) $ drop ! $ move ! (0 ∷ 2 ∷ 1 ∷ []) $ home ! tt Ev ys2 (ws5 .0) ys5 b′ o′ (length ys) ys2-len room′ len5a e5 (λ ys5-len.
-          land ! (from ! (stop !)) (store ! 34 refl (tt, tt)) $
-          -- _16 := results::text_part()
-          use0 W (raw (ResultsTextPart′ 𝓤 H A mem run′ .pre to-results-text-part)) asks-results-text-part $
-          calls-plain ! (fmOf 𝓤 H (W .laws) 𝓣) results-text-part.ended (results-text-part.clauses 𝓤 H A mem run′) known-results-text-part to-results-text-part pa r6 (λ r ws. id⊢ 𝓤 _) (no-more !) (λ ok6.
-          drop ! $
-          land ! (from ! (stop !)) (init ! 22 refl (typed pa W r6 ok6 .0)) $
-          assigns ! (addr ! (from ! (fld ! refl (hop ! (look-in ! 46 (sub ! 0 refl (whole !))) (stop !))))) (from ! (stop !)) (init ! 20 refl (tt, tt)) $  -- _17 := &(*_4.0)
-          assigns ! (agg ! (and-then ! (load ! (from ! (stop !)) (look ! 20 refl)) (and-then ! (load ! (from ! (fld ! refl (stop !))) (look-in ! 46 (sub ! 1 refl (whole !)))) (no-more !)))) (from ! (stop !)) (init ! 18 refl (tt, (tt, (record { fits = room′ .0 }, tt)))) $  -- _18 := {_17, _4.1}
-          -- _19 := tables::behind(_6)
+          land ! (from ! (stop !)) (store ! 32 refl (tt, tt)) $
+          assigns ! (addr ! (from ! (fld ! refl (hop ! (look-in ! 44 (sub ! 0 refl (whole !))) (stop !))))) (from ! (stop !)) (init ! 20 refl (tt, tt)) $  -- _16 := &(*_4.0)
+          assigns ! (agg ! (and-then ! (load ! (from ! (stop !)) (look ! 20 refl)) (and-then ! (load ! (from ! (fld ! refl (stop !))) (look-in ! 44 (sub ! 1 refl (whole !)))) (no-more !)))) (from ! (stop !)) (init ! 18 refl (tt, (tt, (record { fits = room′ .0 }, tt)))) $  -- _17 := {_16, _4.1}
+          -- _18 := tables::behind(_6)
           use0 W (raw (TablesBehind′ 𝓤 H A mem run′ .pre (to-tables-behind r3))) (asks-tables-behind r3 ok3 (omega (arith, head-small bs (pointIn line start 1) slot (asked .0) (asked .1) (asked .2)))) $
-          calls-plain ! (fmOf 𝓤 H (W .laws) 𝓣) tables-behind.ended (tables-behind.clauses 𝓤 H A mem run′) known-tables-behind (to-tables-behind r3) (uint-data w64) r7 (λ r ws. id⊢ 𝓤 _) (and-then ! (load ! (from ! (stop !)) (look ! 43 refl)) (no-more !)) (λ ok7.
+          calls-plain ! (fmOf 𝓤 H (W .laws) 𝓣) tables-behind.ended (tables-behind.clauses 𝓤 H A mem run′) known-tables-behind (to-tables-behind r3) (uint-data w64) r7 (λ r ws. id⊢ 𝓤 _) (and-then ! (load ! (from ! (stop !)) (look ! 41 refl)) (no-more !)) (λ ok7.
           drop ! $
           land ! (from ! (stop !)) (init ! 16 refl (tt, record { fits = ok7 .1 })) $
-          -- _7 := results::result_row(_1, _16, _2, _3, _18, _19)
+          -- _7 := results::result_text_row(_1, _2, _3, _17, _18)
           move ! (2 ∷ []) $ copies ! u8 bs b o _ $ move ! (2 ∷ 3 ∷ []) $ lends ! tt Ev ys5 b′ o′ (length ys) ys5-len room′ (λ ν8e δ8e. move ! (3 ∷ 5 ∷ 0 ∷ 1 ∷ []) $
-          cut (‵ (Shr u8 κ b o (length bs) γ bs) ∷ ‵ (flft κ q) ∷ ‵ (Mut Ev (ν8e ∷ []) b′ o′ (length ys) δ8e ys5) ∷ ‵ (flft (ν8e ∷ []) fullShare) ∷ []) (raw (ResultsResultRow′ 𝓤 H A mem run′ .pre (to-results-result-row κ q b o (length bs) γ bs r6 line start (ν8e ∷ []) fullShare b′ o′ (length ys) δ8e ys5 r7)) ∷ []) _ (asks-results-result-row κ q b o (length bs) γ bs r6 line start (ν8e ∷ []) fullShare b′ o′ (length ys) δ8e ys5 r7 ok6 (refl, line-fits) (refl, start-fits) ok7 (head-row bs (pointIn line start 1) slot (asked .0) (asked .1) (asked .2))) $
-          calls-with ! (fmOf 𝓤 H (W .laws) 𝓣) results-result-row.ended (results-result-row.clauses 𝓤 H A mem run′) known-results-result-row (to-results-result-row κ q b o (length bs) γ bs r6 line start (ν8e ∷ []) fullShare b′ o′ (length ys) δ8e ys5 r7) wn r8 (λ ws. ws .1 .1 .1 .1 .0 ≡ ys8) (λ r ws. id⊢ 𝓤 _) (and-then ! (load ! (from ! (stop !)) (look ! 51 refl)) (and-then ! (load ! (from ! (stop !)) (look ! 21 refl)) (and-then ! (load ! (from ! (stop !)) (look ! 49 refl)) (and-then ! (load ! (from ! (stop !)) (look ! 47 refl)) (and-then ! (load ! (from ! (stop !)) (look ! 17 refl)) (and-then ! (load ! (from ! (stop !)) (look ! 15 refl)) (no-more !))))))) (λ ok8 ws8 e8.
-          fsplit ! $ drop ! $ fsplit ! $ drop ! $ fsplit ! $ drop ! $ fsplit ! $ drop ! $ fsplit ! $ fsplit ! $ move ! (1 ∷ []) $ feqL ! (λ len8e. move ! (1 ∷ []) $ drop ! $ move ! (1 ∷ []) $ use1 W (‵ (flft κ q) ⊛ (‵ (flft (ν8e ∷ []) fullShare) ⊛ ‵ ftrue)) (id⊢ 𝓤 _) $ split ! $ move ! (1 ∷ []) $ split ! $ move ! (1 ∷ []) $ drop ! $ move ! (0 ∷ 3 ∷ 2 ∷ []) $ home ! tt Ev ys5 (ws8 .1 .1 .1 .1 .0) ys8 b′ o′ (length ys) ys5-len room′ len8e e8 (λ ys8-len.
-          land ! (from ! (stop !)) (init ! 40 refl (typed wn W r8 ok8 .0)) $
-          assigns ! (addr ! (from ! (fld ! refl (hop ! (look-in ! 46 (sub ! 0 refl (whole !))) (stop !))))) (from ! (stop !)) (init ! 14 refl (tt, tt)) $  -- _20 := &(*_4.0)
-          assigns ! (agg ! (and-then ! (load ! (from ! (stop !)) (look ! 14 refl)) (and-then ! (load ! (from ! (fld ! refl (stop !))) (look-in ! 46 (sub ! 1 refl (whole !)))) (no-more !)))) (from ! (stop !)) (init ! 12 refl (tt, (tt, (record { fits = room′ .0 }, tt)))) $  -- _21 := {_20, _4.1}
-          -- _8 := results::result_break(_1, _7, _21)
+          cut (‵ (Shr u8 κ b o (length bs) γ bs) ∷ ‵ (flft κ q) ∷ ‵ (Mut Ev (ν8e ∷ []) b′ o′ (length ys) δ8e ys5) ∷ ‵ (flft (ν8e ∷ []) fullShare) ∷ []) (raw (ResultsResultTextRow′ 𝓤 H A mem run′ .pre (to-results-result-text-row κ q b o (length bs) γ bs line start (ν8e ∷ []) fullShare b′ o′ (length ys) δ8e ys5 r7)) ∷ []) _ (asks-results-result-text-row κ q b o (length bs) γ bs line start (ν8e ∷ []) fullShare b′ o′ (length ys) δ8e ys5 r7 (refl, line-fits) (refl, start-fits) ok7 (head-row bs (pointIn line start 1) slot (asked .0) (asked .1) (asked .2))) $
+          calls-with ! (fmOf 𝓤 H (W .laws) 𝓣) results-result-text-row.ended (results-result-text-row.clauses 𝓤 H A mem run′) known-results-result-text-row (to-results-result-text-row κ q b o (length bs) γ bs line start (ν8e ∷ []) fullShare b′ o′ (length ys) δ8e ys5 r7) wn r8 (λ ws. ws .1 .1 .1 .0 ≡ ys8) (λ r ws. id⊢ 𝓤 _) (and-then ! (load ! (from ! (stop !)) (look ! 49 refl)) (and-then ! (load ! (from ! (stop !)) (look ! 47 refl)) (and-then ! (load ! (from ! (stop !)) (look ! 45 refl)) (and-then ! (load ! (from ! (stop !)) (look ! 17 refl)) (and-then ! (load ! (from ! (stop !)) (look ! 15 refl)) (no-more !)))))) (λ ok8 ws8 e8.
+          fsplit ! $ drop ! $ fsplit ! $ drop ! $ fsplit ! $ drop ! $ fsplit ! $ fsplit ! $ move ! (1 ∷ []) $ feqL ! (λ len8e. move ! (1 ∷ []) $ drop ! $ move ! (1 ∷ []) $ use1 W (‵ (flft κ q) ⊛ (‵ (flft (ν8e ∷ []) fullShare) ⊛ ‵ ftrue)) (id⊢ 𝓤 _) $ split ! $ move ! (1 ∷ []) $ split ! $ move ! (1 ∷ []) $ drop ! $ move ! (0 ∷ 3 ∷ 2 ∷ []) $ home ! tt Ev ys5 (ws8 .1 .1 .1 .0) ys8 b′ o′ (length ys) ys5-len room′ len8e e8 (λ ys8-len.
+          land ! (from ! (stop !)) (init ! 38 refl (typed wn W r8 ok8 .0)) $
+          assigns ! (addr ! (from ! (fld ! refl (hop ! (look-in ! 44 (sub ! 0 refl (whole !))) (stop !))))) (from ! (stop !)) (init ! 14 refl (tt, tt)) $  -- _19 := &(*_4.0)
+          assigns ! (agg ! (and-then ! (load ! (from ! (stop !)) (look ! 14 refl)) (and-then ! (load ! (from ! (fld ! refl (stop !))) (look-in ! 44 (sub ! 1 refl (whole !)))) (no-more !)))) (from ! (stop !)) (init ! 12 refl (tt, (tt, (record { fits = room′ .0 }, tt)))) $  -- _20 := {_19, _4.1}
+          -- _8 := results::result_break(_1, _7, _20)
           move ! (3 ∷ []) $ copies ! u8 bs b o _ $ move ! (2 ∷ 3 ∷ []) $ lends ! tt Ev ys8 b′ o′ (length ys) ys8-len room′ (λ ν9c δ9c. move ! (3 ∷ 5 ∷ 0 ∷ 1 ∷ []) $
           cut (‵ (Shr u8 κ b o (length bs) γ bs) ∷ ‵ (flft κ q) ∷ ‵ (Mut Ev (ν9c ∷ []) b′ o′ (length ys) δ9c ys8) ∷ ‵ (flft (ν9c ∷ []) fullShare) ∷ []) (raw (ResultsResultBreak′ 𝓤 H A mem run′ .pre (to-results-result-break κ q b o (length bs) γ bs r8 (ν9c ∷ []) fullShare b′ o′ (length ys) δ9c ys8)) ∷ []) _ (asks-results-result-break κ q b o (length bs) γ bs r8 (ν9c ∷ []) fullShare b′ o′ (length ys) δ9c ys8 ok8 (head-break bs (pointIn line start 1) slot (asked .0) (asked .1) (asked .2))) $
-          calls-with ! (fmOf 𝓤 H (W .laws) 𝓣) results-result-break.ended (results-result-break.clauses 𝓤 H A mem run′) known-results-result-break (to-results-result-break κ q b o (length bs) γ bs r8 (ν9c ∷ []) fullShare b′ o′ (length ys) δ9c ys8) wn r9 (λ ws. ws .1 .1 .0 ≡ ys9) (λ r ws. id⊢ 𝓤 _) (and-then ! (load ! (from ! (stop !)) (look ! 51 refl)) (and-then ! (load ! (from ! (stop !)) (look ! 39 refl)) (and-then ! (load ! (from ! (stop !)) (look ! 11 refl)) (no-more !)))) (λ ok9 ws9 e9.
+          calls-with ! (fmOf 𝓤 H (W .laws) 𝓣) results-result-break.ended (results-result-break.clauses 𝓤 H A mem run′) known-results-result-break (to-results-result-break κ q b o (length bs) γ bs r8 (ν9c ∷ []) fullShare b′ o′ (length ys) δ9c ys8) wn r9 (λ ws. ws .1 .1 .0 ≡ ys9) (λ r ws. id⊢ 𝓤 _) (and-then ! (load ! (from ! (stop !)) (look ! 49 refl)) (and-then ! (load ! (from ! (stop !)) (look ! 37 refl)) (and-then ! (load ! (from ! (stop !)) (look ! 11 refl)) (no-more !)))) (λ ok9 ws9 e9.
           fsplit ! $ drop ! $ fsplit ! $ drop ! $ fsplit ! $ fsplit ! $ move ! (1 ∷ []) $ feqL ! (λ len9c. move ! (1 ∷ []) $ drop ! $ move ! (1 ∷ []) $ use1 W (‵ (flft κ q) ⊛ (‵ (flft (ν9c ∷ []) fullShare) ⊛ ‵ ftrue)) (id⊢ 𝓤 _) $ split ! $ move ! (1 ∷ []) $ split ! $ move ! (1 ∷ []) $ drop ! $ move ! (0 ∷ 3 ∷ 2 ∷ []) $ home ! tt Ev ys8 (ws9 .1 .1 .0) ys9 b′ o′ (length ys) ys8-len room′ len9c e9 (λ ys9-len.
-          land ! (from ! (stop !)) (init ! 38 refl (typed wn W r9 ok9 .0)) $
-          -- _16 := results::mark_part()
-          use0 W (raw (ResultsMarkPart′ 𝓤 H A mem run′ .pre to-results-mark-part)) asks-results-mark-part $
-          calls-plain ! (fmOf 𝓤 H (W .laws) 𝓣) results-mark-part.ended (results-mark-part.clauses 𝓤 H A mem run′) known-results-mark-part to-results-mark-part pa r10 (λ r ws. id⊢ 𝓤 _) (no-more !) (λ ok10.
-          drop ! $
-          land ! (from ! (stop !)) (store ! 22 refl (typed pa W r10 ok10 .0)) $
-          assigns ! (addr ! (from ! (fld ! refl (hop ! (look-in ! 46 (sub ! 0 refl (whole !))) (stop !))))) (from ! (stop !)) (init ! 10 refl (tt, tt)) $  -- _22 := &(*_4.0)
-          assigns ! (agg ! (and-then ! (load ! (from ! (stop !)) (look ! 10 refl)) (and-then ! (load ! (from ! (fld ! refl (stop !))) (look-in ! 46 (sub ! 1 refl (whole !)))) (no-more !)))) (from ! (stop !)) (init ! 8 refl (tt, (tt, (record { fits = room′ .0 }, tt)))) $  -- _23 := {_22, _4.1}
-          -- _9 := results::result_row(_1, _16, _8.0, _8.1, _23, _8.3)
+          land ! (from ! (stop !)) (init ! 36 refl (typed wn W r9 ok9 .0)) $
+          assigns ! (addr ! (from ! (fld ! refl (hop ! (look-in ! 44 (sub ! 0 refl (whole !))) (stop !))))) (from ! (stop !)) (init ! 10 refl (tt, tt)) $  -- _21 := &(*_4.0)
+          assigns ! (agg ! (and-then ! (load ! (from ! (stop !)) (look ! 10 refl)) (and-then ! (load ! (from ! (fld ! refl (stop !))) (look-in ! 44 (sub ! 1 refl (whole !)))) (no-more !)))) (from ! (stop !)) (init ! 8 refl (tt, (tt, (record { fits = room′ .0 }, tt)))) $  -- _22 := {_21, _4.1}
+          -- _9 := results::result_mark_row(_1, _8.0, _8.1, _22, _8.3)
           move ! (3 ∷ []) $ copies ! u8 bs b o _ $ move ! (2 ∷ 3 ∷ []) $ lends ! tt Ev ys9 b′ o′ (length ys) ys9-len room′ (λ ν11e δ11e. move ! (3 ∷ 5 ∷ 0 ∷ 1 ∷ []) $
-          cut (‵ (Shr u8 κ b o (length bs) γ bs) ∷ ‵ (flft κ q) ∷ ‵ (Mut Ev (ν11e ∷ []) b′ o′ (length ys) δ11e ys9) ∷ ‵ (flft (ν11e ∷ []) fullShare) ∷ []) (raw (ResultsResultRow′ 𝓤 H A mem run′ .pre (to-results-result-row κ q b o (length bs) γ bs r10 (r9 .line) (r9 .at) (ν11e ∷ []) fullShare b′ o′ (length ys) δ11e ys9 (r9 .slot))) ∷ []) _ (asks-results-result-row κ q b o (length bs) γ bs r10 (r9 .line) (r9 .at) (ν11e ∷ []) fullShare b′ o′ (length ys) δ11e ys9 (r9 .slot) ok10 (wn-line r9 ok9) (wn-at r9 ok9) (wn-slot r9 ok9) (head-marks bs (pointIn line start 1) slot (asked .0) (asked .1) (asked .2))) $
-          calls-with ! (fmOf 𝓤 H (W .laws) 𝓣) results-result-row.ended (results-result-row.clauses 𝓤 H A mem run′) known-results-result-row (to-results-result-row κ q b o (length bs) γ bs r10 (r9 .line) (r9 .at) (ν11e ∷ []) fullShare b′ o′ (length ys) δ11e ys9 (r9 .slot)) wn r11 (λ ws. ws .1 .1 .1 .1 .0 ≡ ys11) (λ r ws. id⊢ 𝓤 _) (and-then ! (load ! (from ! (stop !)) (look ! 51 refl)) (and-then ! (load ! (from ! (stop !)) (look ! 21 refl)) (and-then ! (load ! (from ! (fld ! refl (stop !))) (look-in ! 37 (sub ! 0 refl (whole !)))) (and-then ! (load ! (from ! (fld ! refl (stop !))) (look-in ! 37 (sub ! 1 refl (whole !)))) (and-then ! (load ! (from ! (stop !)) (look ! 7 refl)) (and-then ! (load ! (from ! (fld ! refl (stop !))) (look-in ! 37 (sub ! 3 refl (whole !)))) (no-more !))))))) (λ ok11 ws11 e11.
-          fsplit ! $ drop ! $ fsplit ! $ drop ! $ fsplit ! $ drop ! $ fsplit ! $ drop ! $ fsplit ! $ fsplit ! $ move ! (1 ∷ []) $ feqL ! (λ len11e. move ! (1 ∷ []) $ drop ! $ move ! (1 ∷ []) $ use1 W (‵ (flft κ q) ⊛ (‵ (flft (ν11e ∷ []) fullShare) ⊛ ‵ ftrue)) (id⊢ 𝓤 _) $ split ! $ move ! (1 ∷ []) $ split ! $ move ! (1 ∷ []) $ drop ! $ move ! (0 ∷ 3 ∷ 2 ∷ []) $ home ! tt Ev ys9 (ws11 .1 .1 .1 .1 .0) ys11 b′ o′ (length ys) ys9-len room′ len11e e11 (λ ys11-len.
-          land ! (from ! (stop !)) (init ! 36 refl (typed wn W r11 ok11 .0)) $
-          assigns ! (addr ! (from ! (fld ! refl (hop ! (look-in ! 46 (sub ! 0 refl (whole !))) (stop !))))) (from ! (stop !)) (init ! 6 refl (tt, tt)) $  -- _24 := &(*_4.0)
-          assigns ! (agg ! (and-then ! (load ! (from ! (stop !)) (look ! 6 refl)) (and-then ! (load ! (from ! (fld ! refl (stop !))) (look-in ! 46 (sub ! 1 refl (whole !)))) (no-more !)))) (from ! (stop !)) (init ! 4 refl (tt, (tt, (record { fits = room′ .0 }, tt)))) $  -- _25 := {_24, _4.1}
+          cut (‵ (Shr u8 κ b o (length bs) γ bs) ∷ ‵ (flft κ q) ∷ ‵ (Mut Ev (ν11e ∷ []) b′ o′ (length ys) δ11e ys9) ∷ ‵ (flft (ν11e ∷ []) fullShare) ∷ []) (raw (ResultsResultMarkRow′ 𝓤 H A mem run′ .pre (to-results-result-mark-row κ q b o (length bs) γ bs (r9 .line) (r9 .at) (ν11e ∷ []) fullShare b′ o′ (length ys) δ11e ys9 (r9 .slot))) ∷ []) _ (asks-results-result-mark-row κ q b o (length bs) γ bs (r9 .line) (r9 .at) (ν11e ∷ []) fullShare b′ o′ (length ys) δ11e ys9 (r9 .slot) (wn-line r9 ok9) (wn-at r9 ok9) (wn-slot r9 ok9) (head-marks bs (pointIn line start 1) slot (asked .0) (asked .1) (asked .2))) $
+          calls-with ! (fmOf 𝓤 H (W .laws) 𝓣) results-result-mark-row.ended (results-result-mark-row.clauses 𝓤 H A mem run′) known-results-result-mark-row (to-results-result-mark-row κ q b o (length bs) γ bs (r9 .line) (r9 .at) (ν11e ∷ []) fullShare b′ o′ (length ys) δ11e ys9 (r9 .slot)) wn r11 (λ ws. ws .1 .1 .1 .0 ≡ ys11) (λ r ws. id⊢ 𝓤 _) (and-then ! (load ! (from ! (stop !)) (look ! 49 refl)) (and-then ! (load ! (from ! (fld ! refl (stop !))) (look-in ! 35 (sub ! 0 refl (whole !)))) (and-then ! (load ! (from ! (fld ! refl (stop !))) (look-in ! 35 (sub ! 1 refl (whole !)))) (and-then ! (load ! (from ! (stop !)) (look ! 7 refl)) (and-then ! (load ! (from ! (fld ! refl (stop !))) (look-in ! 35 (sub ! 3 refl (whole !)))) (no-more !)))))) (λ ok11 ws11 e11.
+          fsplit ! $ drop ! $ fsplit ! $ drop ! $ fsplit ! $ drop ! $ fsplit ! $ fsplit ! $ move ! (1 ∷ []) $ feqL ! (λ len11e. move ! (1 ∷ []) $ drop ! $ move ! (1 ∷ []) $ use1 W (‵ (flft κ q) ⊛ (‵ (flft (ν11e ∷ []) fullShare) ⊛ ‵ ftrue)) (id⊢ 𝓤 _) $ split ! $ move ! (1 ∷ []) $ split ! $ move ! (1 ∷ []) $ drop ! $ move ! (0 ∷ 3 ∷ 2 ∷ []) $ home ! tt Ev ys9 (ws11 .1 .1 .1 .0) ys11 b′ o′ (length ys) ys9-len room′ len11e e11 (λ ys11-len.
+          land ! (from ! (stop !)) (init ! 34 refl (typed wn W r11 ok11 .0)) $
+          assigns ! (addr ! (from ! (fld ! refl (hop ! (look-in ! 44 (sub ! 0 refl (whole !))) (stop !))))) (from ! (stop !)) (init ! 6 refl (tt, tt)) $  -- _23 := &(*_4.0)
+          assigns ! (agg ! (and-then ! (load ! (from ! (stop !)) (look ! 6 refl)) (and-then ! (load ! (from ! (fld ! refl (stop !))) (look-in ! 44 (sub ! 1 refl (whole !)))) (no-more !)))) (from ! (stop !)) (init ! 4 refl (tt, (tt, (record { fits = room′ .0 }, tt)))) $  -- _24 := {_23, _4.1}
           -- _13 := tables::head_exit(_9)
           use0 W (raw (TablesHeadExit′ 𝓤 H A mem run′ .pre (to-tables-head-exit r11))) (asks-tables-head-exit r11 ok11) $
-          calls-plain ! (fmOf 𝓤 H (W .laws) 𝓣) tables-head-exit.ended (tables-head-exit.clauses 𝓤 H A mem run′) known-tables-head-exit (to-tables-head-exit r11) ev r12 (λ r ws. id⊢ 𝓤 _) (and-then ! (load ! (from ! (stop !)) (look ! 37 refl)) (no-more !)) (λ ok12.
+          calls-plain ! (fmOf 𝓤 H (W .laws) 𝓣) tables-head-exit.ended (tables-head-exit.clauses 𝓤 H A mem run′) known-tables-head-exit (to-tables-head-exit r11) ev r12 (λ r ws. id⊢ 𝓤 _) (and-then ! (load ! (from ! (stop !)) (look ! 35 refl)) (no-more !)) (λ ok12.
           drop ! $
-          land ! (from ! (stop !)) (store ! 28 refl (typed ev W r12 ok12 .0)) $
-          -- _10 := slots::put(_25, _9.3, _13)
+          land ! (from ! (stop !)) (store ! 26 refl (typed ev W r12 ok12 .0)) $
+          -- _10 := slots::put(_24, _9.3, _13)
           lends ! tt Ev ys11 b′ o′ (length ys) ys11-len room′ (λ ν13a δ13a.
           cut (‵ (Mut Ev (ν13a ∷ []) b′ o′ (length ys) δ13a ys11) ∷ ‵ (flft (ν13a ∷ []) fullShare) ∷ []) (raw (SlotsPut′ 𝓤 H A mem run′ .pre (to-slots-put (ν13a ∷ []) fullShare b′ o′ (length ys) δ13a ys11 (r11 .slot) r12)) ∷ []) _ (asks-slots-put (ν13a ∷ []) fullShare b′ o′ (length ys) δ13a ys11 (r11 .slot) r12 (wn-slot r11 ok11) ok12) $
-          calls-unit ! (fmOf 𝓤 H (W .laws) 𝓣) slots-put.ended (slots-put.clauses 𝓤 H A mem run′) known-slots-put (to-slots-put (ν13a ∷ []) fullShare b′ o′ (length ys) δ13a ys11 (r11 .slot) r12) at-unit (λ ws. ws .0 ≡ ys13) (λ r ws. id⊢ 𝓤 _) (and-then ! (load ! (from ! (stop !)) (look ! 4 refl)) (and-then ! (load ! (from ! (fld ! refl (stop !))) (look-in ! 36 (sub ! 3 refl (whole !)))) (and-then ! (load ! (from ! (stop !)) (look ! 28 refl)) (no-more !)))) (λ ws13 e13.
+          calls-unit ! (fmOf 𝓤 H (W .laws) 𝓣) slots-put.ended (slots-put.clauses 𝓤 H A mem run′) known-slots-put (to-slots-put (ν13a ∷ []) fullShare b′ o′ (length ys) δ13a ys11 (r11 .slot) r12) at-unit (λ ws. ws .0 ≡ ys13) (λ r ws. id⊢ 𝓤 _) (and-then ! (load ! (from ! (stop !)) (look ! 4 refl)) (and-then ! (load ! (from ! (fld ! refl (stop !))) (look-in ! 34 (sub ! 3 refl (whole !)))) (and-then ! (load ! (from ! (stop !)) (look ! 26 refl)) (no-more !)))) (λ ws13 e13.
           fsplit ! $ fsplit ! $ move ! (1 ∷ []) $ feqL ! (λ len13a. move ! (1 ∷ []) $ drop ! $ move ! (1 ∷ []) $ use1 W (‵ (flft (ν13a ∷ []) fullShare) ⊛ ‵ ftrue) (id⊢ 𝓤 _) $ split ! $ move ! (1 ∷ []) $ drop ! $ move ! (0 ∷ 2 ∷ 1 ∷ []) $ home ! tt Ev ys11 (ws13 .0) ys13 b′ o′ (length ys) ys11-len room′ len13a e13 (λ ys13-len.
-          land ! (from ! (stop !)) (store ! 34 refl (tt, tt)) $
+          land ! (from ! (stop !)) (store ! 32 refl (tt, tt)) $
           -- _0 := tables::one_more(_9)
           use0 W (raw (TablesOneMore′ 𝓤 H A mem run′ .pre (to-tables-one-more r11))) (asks-tables-one-more r11 ok11 (omega (arith, head-small bs (pointIn line start 1) slot (asked .0) (asked .1) (asked .2)))) $
-          calls-plain ! (fmOf 𝓤 H (W .laws) 𝓣) tables-one-more.ended (tables-one-more.clauses 𝓤 H A mem run′) known-tables-one-more (to-tables-one-more r11) wn r14 (λ r ws. id⊢ 𝓤 _) (and-then ! (load ! (from ! (stop !)) (look ! 37 refl)) (no-more !)) (λ ok14.
+          calls-plain ! (fmOf 𝓤 H (W .laws) 𝓣) tables-one-more.ended (tables-one-more.clauses 𝓤 H A mem run′) known-tables-one-more (to-tables-one-more r11) wn r14 (λ r ws. id⊢ 𝓤 _) (and-then ! (load ! (from ! (stop !)) (look ! 35 refl)) (no-more !)) (λ ok14.
           drop ! $
-          land ! (from ! (stop !)) (init ! 54 refl (typed wn W r14 ok14 .0)) $
-          move ! (3 ∷ 2 ∷ 0 ∷ 1 ∷ []) $ forget ! 4 refl $ forget ! 6 refl $ forget ! 8 refl $ forget ! 10 refl $ forget ! 12 refl $ forget ! 14 refl $ forget ! 16 refl $ forget ! 18 refl $ forget ! 20 refl $ forget ! 22 refl $ forget ! 24 refl $ forget ! 26 refl $ forget ! 28 refl $ forget ! 30 refl $ forget ! 32 refl $ forget ! 34 refl $ forget ! 36 refl $ forget ! 38 refl $ forget ! 40 refl $ forget ! 42 refl $ forget ! 44 refl $ forget ! 46 refl $ forget ! 48 refl $ forget ! 50 refl $ forget ! 52 refl $ leaves ys13 ys13-len r14 ok14 (head-said bs (pointIn line start 1) slot ys)))))))))))))))))))))))))))))))))
+          land ! (from ! (stop !)) (init ! 52 refl (typed wn W r14 ok14 .0)) $
+          move ! (3 ∷ 2 ∷ 0 ∷ 1 ∷ []) $ forget ! 4 refl $ forget ! 6 refl $ forget ! 8 refl $ forget ! 10 refl $ forget ! 12 refl $ forget ! 14 refl $ forget ! 16 refl $ forget ! 18 refl $ forget ! 20 refl $ forget ! 22 refl $ forget ! 24 refl $ forget ! 26 refl $ forget ! 28 refl $ forget ! 30 refl $ forget ! 32 refl $ forget ! 34 refl $ forget ! 36 refl $ forget ! 38 refl $ forget ! 40 refl $ forget ! 42 refl $ forget ! 44 refl $ forget ! 46 refl $ forget ! 48 refl $ forget ! 50 refl $ leaves ys13 ys13-len r14 ok14 (head-said bs (pointIn line start 1) slot ys)))))))))))))))))))))))))))))))
 
-    walk : (𝓣 : Tables 𝓤 H) (known-tables-line-entry : Triple 𝓤 (𝓣 .C #sheet·tables·line-entry) (TablesLineEntry′ 𝓤 H A mem run′)) (known-slots-put : Triple 𝓤 (𝓣 .C #tokenizer·slots·put) (SlotsPut′ 𝓤 H A mem run′)) (known-tables-behind : Triple 𝓤 (𝓣 .C #sheet·tables·behind) (TablesBehind′ 𝓤 H A mem run′)) (known-tables-head-entry : Triple 𝓤 (𝓣 .C #sheet·tables·head-entry) (TablesHeadEntry′ 𝓤 H A mem run′)) (known-results-text-part : Triple 𝓤 (𝓣 .C #sheet·results·text-part) (ResultsTextPart′ 𝓤 H A mem run′)) (known-results-result-row : Triple 𝓤 (𝓣 .C #sheet·results·result-row) (ResultsResultRow′ 𝓤 H A mem run′)) (known-results-result-break : Triple 𝓤 (𝓣 .C #sheet·results·result-break) (ResultsResultBreak′ 𝓤 H A mem run′)) (known-results-mark-part : Triple 𝓤 (𝓣 .C #sheet·results·mark-part) (ResultsMarkPart′ 𝓤 H A mem run′)) (known-tables-head-exit : Triple 𝓤 (𝓣 .C #sheet·tables·head-exit) (TablesHeadExit′ 𝓤 H A mem run′)) (known-tables-one-more : Triple 𝓤 (𝓣 .C #sheet·tables·one-more) (TablesOneMore′ 𝓤 H A mem run′)) → ent 𝓤 (onEntry 𝓤 H A result-head.signature (κ, (κ′, tt)) (q, (q′, tt)) x vs) (WpFn 𝓤 H (𝓣 .C) (𝓣 .Λ) code.function (sliceVal (b, o) (length bs) ∷ vint w32 line ∷ vint w32 start ∷ sliceVal (b′, o′) (length ys) ∷ vint w64 slot ∷ []) Post)
-    walk 𝓣 known-tables-line-entry known-slots-put known-tables-behind known-tables-head-entry known-results-text-part known-results-result-row known-results-result-break known-results-mark-part known-tables-head-exit known-tables-one-more =
+    walk : (𝓣 : Tables 𝓤 H) (known-tables-line-entry : Triple 𝓤 (𝓣 .C #sheet·tables·line-entry) (TablesLineEntry′ 𝓤 H A mem run′)) (known-slots-put : Triple 𝓤 (𝓣 .C #tokenizer·slots·put) (SlotsPut′ 𝓤 H A mem run′)) (known-tables-behind : Triple 𝓤 (𝓣 .C #sheet·tables·behind) (TablesBehind′ 𝓤 H A mem run′)) (known-tables-head-entry : Triple 𝓤 (𝓣 .C #sheet·tables·head-entry) (TablesHeadEntry′ 𝓤 H A mem run′)) (known-results-result-text-row : Triple 𝓤 (𝓣 .C #sheet·results·result-text-row) (ResultsResultTextRow′ 𝓤 H A mem run′)) (known-results-result-mark-row : Triple 𝓤 (𝓣 .C #sheet·results·result-mark-row) (ResultsResultMarkRow′ 𝓤 H A mem run′)) (known-results-result-break : Triple 𝓤 (𝓣 .C #sheet·results·result-break) (ResultsResultBreak′ 𝓤 H A mem run′)) (known-tables-head-exit : Triple 𝓤 (𝓣 .C #sheet·tables·head-exit) (TablesHeadExit′ 𝓤 H A mem run′)) (known-tables-one-more : Triple 𝓤 (𝓣 .C #sheet·tables·one-more) (TablesOneMore′ 𝓤 H A mem run′)) → ent 𝓤 (onEntry 𝓤 H A result-head.signature (κ, (κ′, tt)) (q, (q′, tt)) x vs) (WpFn 𝓤 H (𝓣 .C) (𝓣 .Λ) code.function (sliceVal (b, o) (length bs) ∷ vint w32 line ∷ vint w32 start ∷ sliceVal (b′, o′) (length ys) ∷ vint w64 slot ∷ []) Post)
+    walk 𝓣 known-tables-line-entry known-slots-put known-tables-behind known-tables-head-entry known-results-result-text-row known-results-result-mark-row known-results-result-break known-tables-head-exit known-tables-one-more =
         qed W ((‵ (flft κ q) ⊛ ‵ (flft κ′ q′) ⊛ ‵ ftrue) ∷ ‵ (owns (ShrSlice (named 0) κ u8 ∷ u32 ∷ u32 ∷ MutSlice (named 1) κ′ Ev ∷ usize ∷ []) x vs) ∷ []) ∵ move ! (1 ∷ []) $ fsplit ! $ move ! (1 ∷ []) $ fsplit ! $ move ! (1 ∷ []) $ fsplit ! $ move ! (1 ∷ []) $ fsplit ! $ move ! (1 ∷ []) $ fsplit ! $ move ! (1 ∷ []) $ move ! (6 ∷ []) $ split ! $ move ! (1 ∷ []) $ split ! $ keep ! (8 ∷ 2 ∷ 5 ∷ 0 ∷ []) $ enter ! (𝓣 .C) (𝓣 .Λ) code.function (sliceVal (b, o) (length bs) ∷ vint w32 line ∷ vint w32 start ∷ sliceVal (b′, o′) (length ys) ∷ vint w64 slot ∷ []) _ $
-        alloc1 ! (λ l₀. alloc1 ! (λ l₁. alloc1 ! (λ l₂. alloc1 ! (λ l₃. alloc1 ! (λ l₄. alloc1 ! (λ l₅. alloc1 ! (λ l₆. alloc1 ! (λ l₇. alloc1 ! (λ l₈. alloc1 ! (λ l₉. alloc1 ! (λ l₁₀. alloc1 ! (λ l₁₁. alloc1 ! (λ l₁₂. alloc1 ! (λ l₁₃. alloc1 ! (λ l₁₄. alloc1 ! (λ l₁₅. alloc1 ! (λ l₁₆. alloc1 ! (λ l₁₇. alloc1 ! (λ l₁₈. alloc1 ! (λ l₁₉. alloc1 ! (λ l₂₀. alloc1 ! (λ l₂₁. alloc1 ! (λ l₂₂. alloc1 ! (λ l₂₃. alloc1 ! (λ l₂₄. alloc1 ! (λ l₂₅. alloc0 ! $ params1 ! $
-        pass1 ! (init ! 48 refl (tt, (tt, (record { fits = room .0 }, tt)))) $ pass1 ! (init ! 46 refl (tt, record { fits = line-fits })) $ pass1 ! (init ! 44 refl (tt, record { fits = start-fits })) $ pass1 ! (init ! 42 refl (tt, (tt, (record { fits = room′ .0 }, tt)))) $ pass1 ! (init ! 40 refl (tt, record { fits = slot-fits })) $ pass0 ! $ move ! (52 ∷ 53 ∷ 54 ∷ 55 ∷ []) $ body 𝓣 known-tables-line-entry known-slots-put known-tables-behind known-tables-head-entry known-results-text-part known-results-result-row known-results-result-break known-results-mark-part known-tables-head-exit known-tables-one-more l₀ l₁ l₂ l₃ l₄ l₅ l₆ l₇ l₈ l₉ l₁₀ l₁₁ l₁₂ l₁₃ l₁₄ l₁₅ l₁₆ l₁₇ l₁₈ l₁₉ l₂₀ l₂₁ l₂₂ l₂₃ l₂₄ l₂₅))))))))))))))))))))))))))
+        alloc1 ! (λ l₀. alloc1 ! (λ l₁. alloc1 ! (λ l₂. alloc1 ! (λ l₃. alloc1 ! (λ l₄. alloc1 ! (λ l₅. alloc1 ! (λ l₆. alloc1 ! (λ l₇. alloc1 ! (λ l₈. alloc1 ! (λ l₉. alloc1 ! (λ l₁₀. alloc1 ! (λ l₁₁. alloc1 ! (λ l₁₂. alloc1 ! (λ l₁₃. alloc1 ! (λ l₁₄. alloc1 ! (λ l₁₅. alloc1 ! (λ l₁₆. alloc1 ! (λ l₁₇. alloc1 ! (λ l₁₈. alloc1 ! (λ l₁₉. alloc1 ! (λ l₂₀. alloc1 ! (λ l₂₁. alloc1 ! (λ l₂₂. alloc1 ! (λ l₂₃. alloc1 ! (λ l₂₄. alloc0 ! $ params1 ! $
+        pass1 ! (init ! 46 refl (tt, (tt, (record { fits = room .0 }, tt)))) $ pass1 ! (init ! 44 refl (tt, record { fits = line-fits })) $ pass1 ! (init ! 42 refl (tt, record { fits = start-fits })) $ pass1 ! (init ! 40 refl (tt, (tt, (record { fits = room′ .0 }, tt)))) $ pass1 ! (init ! 38 refl (tt, record { fits = slot-fits })) $ pass0 ! $ move ! (50 ∷ 51 ∷ 52 ∷ 53 ∷ []) $ body 𝓣 known-tables-line-entry known-slots-put known-tables-behind known-tables-head-entry known-results-result-text-row known-results-result-mark-row known-results-result-break known-tables-head-exit known-tables-one-more l₀ l₁ l₂ l₃ l₄ l₅ l₆ l₇ l₈ l₉ l₁₀ l₁₁ l₁₂ l₁₃ l₁₄ l₁₅ l₁₆ l₁₇ l₁₈ l₁₉ l₂₀ l₂₁ l₂₂ l₂₃ l₂₄)))))))))))))))))))))))))
 
-result-head-meets : {M : Type 1} (𝓤 : URA M) (H : Heap 𝓤) (A : Atoms 𝓤) → Given 𝓤 H A → (mem : Memory → SProp 𝓤) (run′ : Routine → Fun 𝓤) (𝓣 : Tables 𝓤 H) (known-tables-line-entry : Triple 𝓤 (𝓣 .C #sheet·tables·line-entry) (TablesLineEntry′ 𝓤 H A mem run′)) (known-slots-put : Triple 𝓤 (𝓣 .C #tokenizer·slots·put) (SlotsPut′ 𝓤 H A mem run′)) (known-tables-behind : Triple 𝓤 (𝓣 .C #sheet·tables·behind) (TablesBehind′ 𝓤 H A mem run′)) (known-tables-head-entry : Triple 𝓤 (𝓣 .C #sheet·tables·head-entry) (TablesHeadEntry′ 𝓤 H A mem run′)) (known-results-text-part : Triple 𝓤 (𝓣 .C #sheet·results·text-part) (ResultsTextPart′ 𝓤 H A mem run′)) (known-results-result-row : Triple 𝓤 (𝓣 .C #sheet·results·result-row) (ResultsResultRow′ 𝓤 H A mem run′)) (known-results-result-break : Triple 𝓤 (𝓣 .C #sheet·results·result-break) (ResultsResultBreak′ 𝓤 H A mem run′)) (known-results-mark-part : Triple 𝓤 (𝓣 .C #sheet·results·mark-part) (ResultsMarkPart′ 𝓤 H A mem run′)) (known-tables-head-exit : Triple 𝓤 (𝓣 .C #sheet·tables·head-exit) (TablesHeadExit′ 𝓤 H A mem run′)) (known-tables-one-more : Triple 𝓤 (𝓣 .C #sheet·tables·one-more) (TablesOneMore′ 𝓤 H A mem run′))
+result-head-meets : {M : Type 1} (𝓤 : URA M) (H : Heap 𝓤) (A : Atoms 𝓤) → Given 𝓤 H A → (mem : Memory → SProp 𝓤) (run′ : Routine → Fun 𝓤) (𝓣 : Tables 𝓤 H) (known-tables-line-entry : Triple 𝓤 (𝓣 .C #sheet·tables·line-entry) (TablesLineEntry′ 𝓤 H A mem run′)) (known-slots-put : Triple 𝓤 (𝓣 .C #tokenizer·slots·put) (SlotsPut′ 𝓤 H A mem run′)) (known-tables-behind : Triple 𝓤 (𝓣 .C #sheet·tables·behind) (TablesBehind′ 𝓤 H A mem run′)) (known-tables-head-entry : Triple 𝓤 (𝓣 .C #sheet·tables·head-entry) (TablesHeadEntry′ 𝓤 H A mem run′)) (known-results-result-text-row : Triple 𝓤 (𝓣 .C #sheet·results·result-text-row) (ResultsResultTextRow′ 𝓤 H A mem run′)) (known-results-result-mark-row : Triple 𝓤 (𝓣 .C #sheet·results·result-mark-row) (ResultsResultMarkRow′ 𝓤 H A mem run′)) (known-results-result-break : Triple 𝓤 (𝓣 .C #sheet·results·result-break) (ResultsResultBreak′ 𝓤 H A mem run′)) (known-tables-head-exit : Triple 𝓤 (𝓣 .C #sheet·tables·head-exit) (TablesHeadExit′ 𝓤 H A mem run′)) (known-tables-one-more : Triple 𝓤 (𝓣 .C #sheet·tables·one-more) (TablesOneMore′ 𝓤 H A mem run′))
     → Meets 𝓤 H A result-head.signature (WpFn 𝓤 H (𝓣 .C) (𝓣 .Λ) code.function) (result-head.spec 𝓤 H A mem run′)
-result-head-meets 𝓤 H A W mem run′ 𝓣 known-tables-line-entry known-slots-put known-tables-behind known-tables-head-entry known-results-text-part known-results-result-row known-results-result-break known-results-mark-part known-tables-head-exit known-tables-one-more =
+result-head-meets 𝓤 H A W mem run′ 𝓣 known-tables-line-entry known-slots-put known-tables-behind known-tables-head-entry known-results-result-text-row known-results-result-mark-row known-results-result-break known-tables-head-exit known-tables-one-more =
     walk-meets 𝓤 H A result-head.ended stayed W (goes-none-slice 𝓤 H A W 2 (0 ∷ []) tt (plain (λ _. u8)) yes, (goes-none 𝓤 H A W 2 (λ _. u32) yes (λ κs x f. refl), (goes-none 𝓤 H A W 2 (λ _. u32) yes (λ κs x f. refl), (goes-slice 𝓤 H A W 2 1 tt (plain (λ _. Ev)), (goes-none 𝓤 H A W 2 (λ _. usize) yes (λ κs x f. refl), tt))))) (result-head.clauses 𝓤 H A mem run′) (WpFn 𝓤 H (𝓣 .C) (𝓣 .Λ) code.function) (WpFn-mono 𝓤 H (W .laws) 𝓣 code.function)
     (walked 𝓤 H A result-head.ended stayed (result-head.clauses 𝓤 H A mem run′) (WpFn 𝓤 H (𝓣 .C) (𝓣 .Λ) code.function) (λ κs. (slice-vals, (uint-vals w32, (uint-vals w32, (slice-vals, (uint-vals w64, tt)))))) (λ κs. (shr-slice-tells (named 0) (κs .0) u8, (uint-tells w32, (uint-tells w32, (mut-slice-tells (named 1) (κs .1 .0) Ev, (uint-tells w64, tt))))))
-    (λ κs qs bounds a g are. needs 𝓤 _ _ (λ asked. walk 𝓤 H A W mem run′ (κs .0) (κs .1 .0) (qs .0) (qs .1 .0) (a .0 .ptr .0) (a .0 .ptr .1) (a .0 .name) (a .0 .now) (are .0 .0 .1) (a .1 .0) (are .1 .0 .1) (a .1 .1 .0) (are .1 .1 .0 .1) (a .1 .1 .1 .0 .ptr .0) (a .1 .1 .1 .0 .ptr .1) (a .1 .1 .1 .0 .name) (a .1 .1 .1 .0 .now) (are .1 .1 .1 .0 .0 .1) (a .1 .1 .1 .1 .0) (are .1 .1 .1 .1 .0 .1) asked 𝓣 known-tables-line-entry known-slots-put known-tables-behind known-tables-head-entry known-results-text-part known-results-result-row known-results-result-break known-results-mark-part known-tables-head-exit known-tables-one-more)))
+    (λ κs qs bounds a g are. needs 𝓤 _ _ (λ asked. walk 𝓤 H A W mem run′ (κs .0) (κs .1 .0) (qs .0) (qs .1 .0) (a .0 .ptr .0) (a .0 .ptr .1) (a .0 .name) (a .0 .now) (are .0 .0 .1) (a .1 .0) (are .1 .0 .1) (a .1 .1 .0) (are .1 .1 .0 .1) (a .1 .1 .1 .0 .ptr .0) (a .1 .1 .1 .0 .ptr .1) (a .1 .1 .1 .0 .name) (a .1 .1 .1 .0 .now) (are .1 .1 .1 .0 .0 .1) (a .1 .1 .1 .1 .0) (are .1 .1 .1 .1 .0 .1) asked 𝓣 known-tables-line-entry known-slots-put known-tables-behind known-tables-head-entry known-results-result-text-row known-results-result-mark-row known-results-result-break known-tables-head-exit known-tables-one-more)))
 
 pub result-head-spec : {M : Type 1} → stated.statement M
 unfolding code.routine tablesOf
@@ -368,9 +338,8 @@ result-head-spec 𝓤 H 𝓜 𝓖 𝓡 =
     (cited 𝓤 H (SlotsPut′ 𝓤 H (𝓖 .A) (𝓜 .mem) (𝓡 .run)) 𝓜 𝓡 code.env #tokenizer·slots·put slots-put-def.routine code.calls-tokenizer·slots·put (slots-put-thm.met 𝓤 H 𝓜 𝓖 𝓡))
     (cited 𝓤 H (TablesBehind′ 𝓤 H (𝓖 .A) (𝓜 .mem) (𝓡 .run)) 𝓜 𝓡 code.env #sheet·tables·behind tables-behind-def.routine code.calls-sheet·tables·behind (tables-behind-thm.met 𝓤 H 𝓜 𝓖 𝓡))
     (cited 𝓤 H (TablesHeadEntry′ 𝓤 H (𝓖 .A) (𝓜 .mem) (𝓡 .run)) 𝓜 𝓡 code.env #sheet·tables·head-entry tables-head-entry-def.routine code.calls-sheet·tables·head-entry (tables-head-entry-thm.met 𝓤 H 𝓜 𝓖 𝓡))
-    (cited 𝓤 H (ResultsTextPart′ 𝓤 H (𝓖 .A) (𝓜 .mem) (𝓡 .run)) 𝓜 𝓡 code.env #sheet·results·text-part results-text-part-def.routine code.calls-sheet·results·text-part (results-text-part-thm.met 𝓤 H 𝓜 𝓖 𝓡))
-    (cited 𝓤 H (ResultsResultRow′ 𝓤 H (𝓖 .A) (𝓜 .mem) (𝓡 .run)) 𝓜 𝓡 code.env #sheet·results·result-row results-result-row-def.routine code.calls-sheet·results·result-row (results-result-row-thm.met 𝓤 H 𝓜 𝓖 𝓡))
+    (cited 𝓤 H (ResultsResultTextRow′ 𝓤 H (𝓖 .A) (𝓜 .mem) (𝓡 .run)) 𝓜 𝓡 code.env #sheet·results·result-text-row results-result-text-row-def.routine code.calls-sheet·results·result-text-row (results-result-text-row-thm.met 𝓤 H 𝓜 𝓖 𝓡))
+    (cited 𝓤 H (ResultsResultMarkRow′ 𝓤 H (𝓖 .A) (𝓜 .mem) (𝓡 .run)) 𝓜 𝓡 code.env #sheet·results·result-mark-row results-result-mark-row-def.routine code.calls-sheet·results·result-mark-row (results-result-mark-row-thm.met 𝓤 H 𝓜 𝓖 𝓡))
     (cited 𝓤 H (ResultsResultBreak′ 𝓤 H (𝓖 .A) (𝓜 .mem) (𝓡 .run)) 𝓜 𝓡 code.env #sheet·results·result-break results-result-break-def.routine code.calls-sheet·results·result-break (results-result-break-thm.met 𝓤 H 𝓜 𝓖 𝓡))
-    (cited 𝓤 H (ResultsMarkPart′ 𝓤 H (𝓖 .A) (𝓜 .mem) (𝓡 .run)) 𝓜 𝓡 code.env #sheet·results·mark-part results-mark-part-def.routine code.calls-sheet·results·mark-part (results-mark-part-thm.met 𝓤 H 𝓜 𝓖 𝓡))
     (cited 𝓤 H (TablesHeadExit′ 𝓤 H (𝓖 .A) (𝓜 .mem) (𝓡 .run)) 𝓜 𝓡 code.env #sheet·tables·head-exit tables-head-exit-def.routine code.calls-sheet·tables·head-exit (tables-head-exit-thm.met 𝓤 H 𝓜 𝓖 𝓡))
     (cited 𝓤 H (TablesOneMore′ 𝓤 H (𝓖 .A) (𝓜 .mem) (𝓡 .run)) 𝓜 𝓡 code.env #sheet·tables·one-more tables-one-more-def.routine code.calls-sheet·tables·one-more (tables-one-more-thm.met 𝓤 H 𝓜 𝓖 𝓡)))

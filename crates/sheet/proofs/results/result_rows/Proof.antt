@@ -1,7 +1,6 @@
 -- `results::result_rows` meets its contract.
 -- Assumes nothing.
 use Rattle.tokenizer.proofs.Prelude.{_≡_, refl, sym, _∙_, ap, subst, ℕ, zero, suc, _+_, _-_, _*_, _<_, _≤_, _^_, arith, Bool, true, false, not, List, [], _∷_, _++_, Holds, ltb, ltb→lt, nltb→le, lit<, length, getD, set, take, dropN, length-set, URA, fullShare, Ty, named, imm, mut, erased, w8, w16, w32, w64, tyInt, tyBool, tyUnit, tyPtr, tyRef, tyArray, Val, vunit, vbool, vint, vptr, SProp, ent, sep, emp, id⊢, via, fst∗, ∗emp, Lft, GName, Share, Fml, ftrue, fsep, fat, froom, fdies, flft, Memory, Routine, afterTurn, Heap, Out, Env, Calls, Loops, Wp, WpFn, Tables, afterSeq, afterBlock, atReturn, Atoms, sem, Fun, fact, fact-mono, tablesOf, givenOf, tables, Given, Item, Sq, Goal, cut, runs, anyQ, atRet, ‵, raw, _⊛_, ⋆, _$_, _∵_, !, qed, by, move, keep, drop, use0, use1, use2, use3, split, join, pick, learn, rewrite, fsplit, fsplit3, fjoin, fjoin3, feqL, feqI, suffices, frame, await, done, agg, rep, whole, sub, look-in, store-in, look, look-raw, store, store-raw, init, forget, stop, hop, fld, from, load, lit, unit-lit, true-lit, false-lit, addr, of-opd, bin, un, and-then, no-more, assigns, assigns-last, land, land-last, first, skips, jumps, blocks, branches, returns, returns-within, enter, alloc1, alloc0, params1, pass1, pass0, free1, free0, exec, Below, again, loops, FmC, fmOf, WpFn-mono, RattleType, owns, Is, shows, pointee, uint-vals, uint-tells, uint-makes, nothing-lawful, u8, u16, u32, usize, bool, Array, RefT, MutRef, ShrRef, ptr-vals, mut-tells, shr-tells, sliceTy, sliceVal, ShrSlice, MutSlice, Room, finally, slice-vals, shr-slice-tells, mut-slice-tells, place-is, place-byte, plain, nothing, owned, Contract, Triple, calls-at, calls-at-last, Vals, onEntry, Meets, tripleOf, entered, cited, says, needs, Stays, stay-slice, gave-slice, stay-none-slice, stay-ref, gave-ref, stay-none-ref, stay-none, walkOf, ends-at, walked, goes-slice, goes-gave-slice, goes-none-slice, goes-ref, goes-gave-ref, goes-none-ref, goes-none, walk-meets, yes, Data, uint-data, bool-data, vals, typed, place-fits, holds, fails, tl, big-lit, sl, Mut, Shr, copies, looks-elem, shuts-elem, opens-elem, closes-elem, lends-row, row-back, lends, home, shares, shared-home, array-data, repeat-is, parts-array, whole-array, reads-row, back-row, rf, looks-ref, shuts-ref, opens-ref, closes-ref, lends-local, local-home, answers, calls-plain, calls-plain-last, lends-array, array-home, shares-array, array-shared-home, calls-with, calls-unit, at-unit}
-use Rattle.gfm_table.proofs.Types.{Pa, pa, pa-ty}
 use Rattle.sheet.proofs.Types.{Wn, wn, wn-ty, wn-line, wn-at, wn-slot}
 use Rattle.tokenizer.proofs.Types.{Ev, ev, ev-ty}
 use Rattle.tokenizer.proofs.Turning as T
@@ -31,14 +30,10 @@ use Rattle.sheet.proofs.results.write_if as results-write-if
 use Rattle.sheet.proofs.results.write_if.Symbol as results-write-if-def
 use Rattle.sheet.proofs.results.write_if.Symbol.{name as #sheet·results·write-if}
 use Rattle.sheet.proofs.results.write_if.Met as results-write-if-thm
-use Rattle.sheet.proofs.results.text_part as results-text-part
-use Rattle.sheet.proofs.results.text_part.Symbol as results-text-part-def
-use Rattle.sheet.proofs.results.text_part.Symbol.{name as #sheet·results·text-part}
-use Rattle.sheet.proofs.results.text_part.Met as results-text-part-thm
-use Rattle.sheet.proofs.results.result_row as results-result-row
-use Rattle.sheet.proofs.results.result_row.Symbol as results-result-row-def
-use Rattle.sheet.proofs.results.result_row.Symbol.{name as #sheet·results·result-row}
-use Rattle.sheet.proofs.results.result_row.Met as results-result-row-thm
+use Rattle.sheet.proofs.results.result_text_row as results-result-text-row
+use Rattle.sheet.proofs.results.result_text_row.Symbol as results-result-text-row-def
+use Rattle.sheet.proofs.results.result_text_row.Symbol.{name as #sheet·results·result-text-row}
+use Rattle.sheet.proofs.results.result_text_row.Met as results-result-text-row-thm
 use Rattle.sheet.proofs.results.result_rows.Key.{name as #sheet·result-rows}
 use Rattle.sheet.proofs.results.result_rows as result-rows
 use Rattle.sheet.proofs.results.result_rows.Statement as stated
@@ -60,11 +55,8 @@ ResultsNameEntry′ 𝓤 H A mem run′ = tripleOf 𝓤 H A results-name-entry.s
 abbrev ResultsWriteIf′ : {M : Type 1} (𝓤 : URA M) (H : Heap 𝓤) (A : Atoms 𝓤) (mem : Memory → SProp 𝓤) (run′ : Routine → Fun 𝓤) → Contract 𝓤
 ResultsWriteIf′ 𝓤 H A mem run′ = tripleOf 𝓤 H A results-write-if.signature (results-write-if.spec 𝓤 H A mem run′)
 
-abbrev ResultsTextPart′ : {M : Type 1} (𝓤 : URA M) (H : Heap 𝓤) (A : Atoms 𝓤) (mem : Memory → SProp 𝓤) (run′ : Routine → Fun 𝓤) → Contract 𝓤
-ResultsTextPart′ 𝓤 H A mem run′ = tripleOf 𝓤 H A results-text-part.signature (results-text-part.spec 𝓤 H A mem run′)
-
-abbrev ResultsResultRow′ : {M : Type 1} (𝓤 : URA M) (H : Heap 𝓤) (A : Atoms 𝓤) (mem : Memory → SProp 𝓤) (run′ : Routine → Fun 𝓤) → Contract 𝓤
-ResultsResultRow′ 𝓤 H A mem run′ = tripleOf 𝓤 H A results-result-row.signature (results-result-row.spec 𝓤 H A mem run′)
+abbrev ResultsResultTextRow′ : {M : Type 1} (𝓤 : URA M) (H : Heap 𝓤) (A : Atoms 𝓤) (mem : Memory → SProp 𝓤) (run′ : Routine → Fun 𝓤) → Contract 𝓤
+ResultsResultTextRow′ 𝓤 H A mem run′ = tripleOf 𝓤 H A results-result-text-row.signature (results-result-text-row.spec 𝓤 H A mem run′)
 
 module _ {M : Type 1} (𝓤 : URA M) (H : Heap 𝓤) (A : Atoms 𝓤) (W : Given 𝓤 H A) (mem : Memory → SProp 𝓤) (run′ : Routine → Fun 𝓤) where
   -- `results::result_break`: what its triple binds outside, and that the slices lent and their tokens give what it asks
@@ -97,20 +89,13 @@ module _ {M : Type 1} (𝓤 : URA M) (H : Heap 𝓤) (A : Atoms 𝓤) (W : Given
   asks-results-write-if κ₁ q₁ b₁ o₁ n₁ γ₁ ys₁ a₂ a₃ a₄ a₂-ok a₃-ok a₄-ok asked =
       qed W (‵ (Mut Ev κ₁ b₁ o₁ n₁ γ₁ ys₁) ∷ ‵ (flft κ₁ q₁) ∷ []) ∵ says ! asked $ nothing ! $ move ! (2 ∷ 0 ∷ []) $ join ! $ frame ! $ nothing ! $ owned ! Ev (Is Ev) (ev .makes M 𝓤 H A W) a₄ _ a₄-ok $ fjoin ! $ owned ! Wn (Is Wn) (wn .makes M 𝓤 H A W) a₃ _ a₃-ok $ fjoin ! $ owned ! bool (Is bool) (bool-data .makes M 𝓤 H A W) a₂ _ a₂-ok $ fjoin ! $ move ! (1 ∷ 0 ∷ []) $ fjoin ! $ done !
 
-  -- `results::text_part`: what its triple binds outside, and that the slices lent and their tokens give what it asks
-  abbrev to-results-text-part : ResultsTextPart′ 𝓤 H A mem run′ .Ghost
-  to-results-text-part = ((tt, tt, tt, tt, tt), tt)
+  -- `results::result_text_row`: what its triple binds outside, and that the slices lent and their tokens give what it asks
+  abbrev to-results-result-text-row : (κ₁ : Lft) (q₁ : Share) (b₁ o₁ n₁ : ℕ) (γ₁ : GName) (ys₁ : List (u8 .Denot)) (a₂ : u32 .Denot) (a₃ : u32 .Denot) (κ₄ : Lft) (q₄ : Share) (b₄ o₄ n₄ : ℕ) (γ₄ : GName) (ys₄ : List (Ev .Denot)) (a₅ : usize .Denot) → ResultsResultTextRow′ 𝓤 H A mem run′ .Ghost
+  to-results-result-text-row κ₁ q₁ b₁ o₁ n₁ γ₁ ys₁ a₂ a₃ κ₄ q₄ b₄ o₄ n₄ γ₄ ys₄ a₅ = (((κ₁, (κ₄, tt)), (q₁, (q₄, tt)), tt, (sl b₁ o₁ γ₁ ys₁, (a₂, (a₃, (sl b₄ o₄ γ₄ ys₄, (a₅, tt))))), (sliceVal (b₁, o₁) n₁ ∷ [], ((uint-data w32) .val a₂ ∷ [], ((uint-data w32) .val a₃ ∷ [], (sliceVal (b₄, o₄) n₄ ∷ [], ((uint-data w64) .val a₅ ∷ [], tt)))))), tt)
 
-  asks-results-text-part : ent 𝓤 (emp 𝓤) (ResultsTextPart′ 𝓤 H A mem run′ .pre to-results-text-part)
-  asks-results-text-part = qed W [] ∵ nothing ! $ nothing ! $ nothing ! $ join ! $ frame ! $ done !
-
-  -- `results::result_row`: what its triple binds outside, and that the slices lent and their tokens give what it asks
-  abbrev to-results-result-row : (κ₁ : Lft) (q₁ : Share) (b₁ o₁ n₁ : ℕ) (γ₁ : GName) (ys₁ : List (u8 .Denot)) (a₂ : Pa .Denot) (a₃ : u32 .Denot) (a₄ : u32 .Denot) (κ₅ : Lft) (q₅ : Share) (b₅ o₅ n₅ : ℕ) (γ₅ : GName) (ys₅ : List (Ev .Denot)) (a₆ : usize .Denot) → ResultsResultRow′ 𝓤 H A mem run′ .Ghost
-  to-results-result-row κ₁ q₁ b₁ o₁ n₁ γ₁ ys₁ a₂ a₃ a₄ κ₅ q₅ b₅ o₅ n₅ γ₅ ys₅ a₆ = (((κ₁, (κ₅, tt)), (q₁, (q₅, tt)), tt, (sl b₁ o₁ γ₁ ys₁, (a₂, (a₃, (a₄, (sl b₅ o₅ γ₅ ys₅, (a₆, tt)))))), (sliceVal (b₁, o₁) n₁ ∷ [], (pa .val a₂ ∷ [], ((uint-data w32) .val a₃ ∷ [], ((uint-data w32) .val a₄ ∷ [], (sliceVal (b₅, o₅) n₅ ∷ [], ((uint-data w64) .val a₆ ∷ [], tt))))))), tt)
-
-  asks-results-result-row : (κ₁ : Lft) (q₁ : Share) (b₁ o₁ n₁ : ℕ) (γ₁ : GName) (ys₁ : List (u8 .Denot)) (a₂ : Pa .Denot) (a₃ : u32 .Denot) (a₄ : u32 .Denot) (κ₅ : Lft) (q₅ : Share) (b₅ o₅ n₅ : ℕ) (γ₅ : GName) (ys₅ : List (Ev .Denot)) (a₆ : usize .Denot) (a₂-ok : Is Pa a₂ (vals pa a₂)) (a₃-ok : Is u32 a₃ (vals (uint-data w32) a₃)) (a₄-ok : Is u32 a₄ (vals (uint-data w32) a₄)) (a₆-ok : Is usize a₆ (vals (uint-data w64) a₆)) (asked : Inside ys₁ (pointIn a₃ a₄ 1) × Few a₆ (rowResult ys₁ a₂ (pointIn a₃ a₄ 1))) → ent 𝓤 (⋆ 𝓤 H A (‵ (Shr u8 κ₁ b₁ o₁ n₁ γ₁ ys₁) ∷ ‵ (flft κ₁ q₁) ∷ ‵ (Mut Ev κ₅ b₅ o₅ n₅ γ₅ ys₅) ∷ ‵ (flft κ₅ q₅) ∷ [])) (⋆ 𝓤 H A (raw (ResultsResultRow′ 𝓤 H A mem run′ .pre (to-results-result-row κ₁ q₁ b₁ o₁ n₁ γ₁ ys₁ a₂ a₃ a₄ κ₅ q₅ b₅ o₅ n₅ γ₅ ys₅ a₆)) ∷ []))
-  asks-results-result-row κ₁ q₁ b₁ o₁ n₁ γ₁ ys₁ a₂ a₃ a₄ κ₅ q₅ b₅ o₅ n₅ γ₅ ys₅ a₆ a₂-ok a₃-ok a₄-ok a₆-ok asked =
-      qed W (‵ (Shr u8 κ₁ b₁ o₁ n₁ γ₁ ys₁) ∷ ‵ (flft κ₁ q₁) ∷ ‵ (Mut Ev κ₅ b₅ o₅ n₅ γ₅ ys₅) ∷ ‵ (flft κ₅ q₅) ∷ []) ∵ says ! asked $ nothing ! $ move ! (4 ∷ 0 ∷ []) $ join ! $ move ! (2 ∷ 0 ∷ []) $ join ! $ frame ! $ nothing ! $ owned ! usize (Is usize) ((uint-data w64) .makes M 𝓤 H A W) a₆ _ a₆-ok $ fjoin ! $ move ! (2 ∷ 0 ∷ []) $ fjoin ! $ owned ! u32 (Is u32) ((uint-data w32) .makes M 𝓤 H A W) a₄ _ a₄-ok $ fjoin ! $ owned ! u32 (Is u32) ((uint-data w32) .makes M 𝓤 H A W) a₃ _ a₃-ok $ fjoin ! $ owned ! Pa (Is Pa) (pa .makes M 𝓤 H A W) a₂ _ a₂-ok $ fjoin ! $ move ! (1 ∷ 0 ∷ []) $ fjoin ! $ done !
+  asks-results-result-text-row : (κ₁ : Lft) (q₁ : Share) (b₁ o₁ n₁ : ℕ) (γ₁ : GName) (ys₁ : List (u8 .Denot)) (a₂ : u32 .Denot) (a₃ : u32 .Denot) (κ₄ : Lft) (q₄ : Share) (b₄ o₄ n₄ : ℕ) (γ₄ : GName) (ys₄ : List (Ev .Denot)) (a₅ : usize .Denot) (a₂-ok : Is u32 a₂ (vals (uint-data w32) a₂)) (a₃-ok : Is u32 a₃ (vals (uint-data w32) a₃)) (a₅-ok : Is usize a₅ (vals (uint-data w64) a₅)) (asked : Inside ys₁ (pointIn a₂ a₃ 1) × Few a₅ (rowResult ys₁ Body (pointIn a₂ a₃ 1))) → ent 𝓤 (⋆ 𝓤 H A (‵ (Shr u8 κ₁ b₁ o₁ n₁ γ₁ ys₁) ∷ ‵ (flft κ₁ q₁) ∷ ‵ (Mut Ev κ₄ b₄ o₄ n₄ γ₄ ys₄) ∷ ‵ (flft κ₄ q₄) ∷ [])) (⋆ 𝓤 H A (raw (ResultsResultTextRow′ 𝓤 H A mem run′ .pre (to-results-result-text-row κ₁ q₁ b₁ o₁ n₁ γ₁ ys₁ a₂ a₃ κ₄ q₄ b₄ o₄ n₄ γ₄ ys₄ a₅)) ∷ []))
+  asks-results-result-text-row κ₁ q₁ b₁ o₁ n₁ γ₁ ys₁ a₂ a₃ κ₄ q₄ b₄ o₄ n₄ γ₄ ys₄ a₅ a₂-ok a₃-ok a₅-ok asked =
+      qed W (‵ (Shr u8 κ₁ b₁ o₁ n₁ γ₁ ys₁) ∷ ‵ (flft κ₁ q₁) ∷ ‵ (Mut Ev κ₄ b₄ o₄ n₄ γ₄ ys₄) ∷ ‵ (flft κ₄ q₄) ∷ []) ∵ says ! asked $ nothing ! $ move ! (4 ∷ 0 ∷ []) $ join ! $ move ! (2 ∷ 0 ∷ []) $ join ! $ frame ! $ nothing ! $ owned ! usize (Is usize) ((uint-data w64) .makes M 𝓤 H A W) a₅ _ a₅-ok $ fjoin ! $ move ! (2 ∷ 0 ∷ []) $ fjoin ! $ owned ! u32 (Is u32) ((uint-data w32) .makes M 𝓤 H A W) a₃ _ a₃-ok $ fjoin ! $ owned ! u32 (Is u32) ((uint-data w32) .makes M 𝓤 H A W) a₂ _ a₂-ok $ fjoin ! $ move ! (1 ∷ 0 ∷ []) $ fjoin ! $ done !
 
   module _ (κ κ′ : Lft) (q q′ : Share) (b o : ℕ) (γ : GName) (bs : List (u8 .Denot)) (room : Room u8 (length bs)) (w : Wn .Denot) (w-ok : Is Wn w (vals wn w)) (halt : ℕ) (halt-fits : halt < 2 ^ 32) (b′ o′ : ℕ) (γ′ : GName) (ys : List (Ev .Denot)) (room′ : Room Ev (length ys)) (asked : AtEnd bs w × (halt ≡ lastStop bs (pointAt w)) × Few (w .slot) (rowsResult (eqb (w .at) (w .at)) (bodyAfter bs (pointAt w)))) where
     abbrev x : RefT (List (u8 .Denot)) × (Wn .Denot × (ℕ × (RefT (List (Ev .Denot)) × Unit {0})))
@@ -135,7 +120,7 @@ module _ {M : Type 1} (𝓤 : URA M) (H : Heap 𝓤) (A : Atoms 𝓤) (W : Given
     abbrev Fewer : Turn → Turn → Type 0
     Fewer = T.Fewer (λ (x : Wn .Denot). Is Wn x (vals wn x) × Good bs (w .at) halt x) (λ (x : Wn .Denot). halt - x .at) (makes bs (w .at) halt) ys (makes bs (w .at) halt w ys)
 
-    module _ (𝓣 : Tables 𝓤 H) (known-results-result-break : Triple 𝓤 (𝓣 .C #sheet·results·result-break) (ResultsResultBreak′ 𝓤 H A mem run′)) (known-results-is-same : Triple 𝓤 (𝓣 .C #sheet·results·is-same) (ResultsIsSame′ 𝓤 H A mem run′)) (known-results-name-entry : Triple 𝓤 (𝓣 .C #sheet·results·name-entry) (ResultsNameEntry′ 𝓤 H A mem run′)) (known-results-write-if : Triple 𝓤 (𝓣 .C #sheet·results·write-if) (ResultsWriteIf′ 𝓤 H A mem run′)) (known-results-text-part : Triple 𝓤 (𝓣 .C #sheet·results·text-part) (ResultsTextPart′ 𝓤 H A mem run′)) (known-results-result-row : Triple 𝓤 (𝓣 .C #sheet·results·result-row) (ResultsResultRow′ 𝓤 H A mem run′)) (l₀ l₁ l₂ l₃ l₄ l₅ l₆ l₇ l₈ l₉ l₁₀ l₁₁ l₁₂ l₁₃ l₁₄ l₁₅ l₁₆ l₁₇ : ℕ) where
+    module _ (𝓣 : Tables 𝓤 H) (known-results-result-break : Triple 𝓤 (𝓣 .C #sheet·results·result-break) (ResultsResultBreak′ 𝓤 H A mem run′)) (known-results-is-same : Triple 𝓤 (𝓣 .C #sheet·results·is-same) (ResultsIsSame′ 𝓤 H A mem run′)) (known-results-name-entry : Triple 𝓤 (𝓣 .C #sheet·results·name-entry) (ResultsNameEntry′ 𝓤 H A mem run′)) (known-results-write-if : Triple 𝓤 (𝓣 .C #sheet·results·write-if) (ResultsWriteIf′ 𝓤 H A mem run′)) (known-results-result-text-row : Triple 𝓤 (𝓣 .C #sheet·results·result-text-row) (ResultsResultTextRow′ 𝓤 H A mem run′)) (l₀ l₁ l₂ l₃ l₄ l₅ l₆ l₇ l₈ l₉ l₁₀ l₁₁ l₁₂ l₁₃ l₁₄ l₁₅ l₁₆ : ℕ) where
       abbrev C : Calls 𝓤 H
       C = 𝓣 .C
 
@@ -143,16 +128,16 @@ module _ {M : Type 1} (𝓤 : URA M) (H : Heap 𝓤) (A : Atoms 𝓤) (W : Given
       Λ = 𝓣 .Λ
 
       abbrev En : Env 𝓤 H
-      En = (wn-ty, l₀) ∷ (sliceTy (tyRef (named 0) imm (pointee (u8 .written))), l₁) ∷ (wn-ty, l₂) ∷ (tyInt w32, l₃) ∷ (sliceTy (tyRef (named 1) mut (pointee (Ev .written))), l₄) ∷ (wn-ty, l₅) ∷ (wn-ty, l₆) ∷ (wn-ty, l₇) ∷ (wn-ty, l₈) ∷ (tyBool, l₉) ∷ (tyRef erased mut (pointee (Ev .written)), l₁₀) ∷ (sliceTy (tyRef erased mut (pointee (Ev .written))), l₁₁) ∷ (tyRef erased mut (pointee (Ev .written)), l₁₂) ∷ (sliceTy (tyRef erased mut (pointee (Ev .written))), l₁₃) ∷ (ev-ty, l₁₄) ∷ (pa-ty, l₁₅) ∷ (tyRef erased mut (pointee (Ev .written)), l₁₆) ∷ (sliceTy (tyRef erased mut (pointee (Ev .written))), l₁₇) ∷ []
+      En = (wn-ty, l₀) ∷ (sliceTy (tyRef (named 0) imm (pointee (u8 .written))), l₁) ∷ (wn-ty, l₂) ∷ (tyInt w32, l₃) ∷ (sliceTy (tyRef (named 1) mut (pointee (Ev .written))), l₄) ∷ (wn-ty, l₅) ∷ (wn-ty, l₆) ∷ (wn-ty, l₇) ∷ (wn-ty, l₈) ∷ (tyBool, l₉) ∷ (tyRef erased mut (pointee (Ev .written)), l₁₀) ∷ (sliceTy (tyRef erased mut (pointee (Ev .written))), l₁₁) ∷ (tyRef erased mut (pointee (Ev .written)), l₁₂) ∷ (sliceTy (tyRef erased mut (pointee (Ev .written))), l₁₃) ∷ (ev-ty, l₁₄) ∷ (tyRef erased mut (pointee (Ev .written)), l₁₅) ∷ (sliceTy (tyRef erased mut (pointee (Ev .written))), l₁₆) ∷ []
 
       -- the end of the body, by itself: there are fewer names there, and the check is quicker
-      leaves : (zs′ : List (Ev .Denot)) (zs′-len : length zs′ ≡ length ys) (r : Wn .Denot) (r-ok : Is Wn r (vals wn r)) (said : (r ≡ writtenAt (lastPoint bs (pointAt w)) (w .slot + length (rowsResult (eqb (w .at) (w .at)) (bodyAfter bs (pointAt w))))) × (zs′ ≡ wrote (w .slot) (rowsResult (eqb (w .at) (w .at)) (bodyAfter bs (pointAt w))) ys)) → Sq W (‵ (Shr u8 κ b o (length bs) γ bs) ∷ ‵ (flft κ q) ∷ ‵ (Mut Ev κ′ b′ o′ (length ys) γ′ zs′) ∷ ‵ (flft κ′ q′) ∷ ‵ (froom (sliceTy (tyRef erased mut (pointee (Ev .written)))) l₁₇ 0) ∷ ‵ (fdies (sliceTy (tyRef erased mut (pointee (Ev .written)))) l₁₇) ∷ ‵ (froom (tyRef erased mut (pointee (Ev .written))) l₁₆ 0) ∷ ‵ (fdies (tyRef erased mut (pointee (Ev .written))) l₁₆) ∷ ‵ (froom pa-ty l₁₅ 0) ∷ ‵ (fdies pa-ty l₁₅) ∷ ‵ (froom ev-ty l₁₄ 0) ∷ ‵ (fdies ev-ty l₁₄) ∷ ‵ (froom (sliceTy (tyRef erased mut (pointee (Ev .written)))) l₁₃ 0) ∷ ‵ (fdies (sliceTy (tyRef erased mut (pointee (Ev .written)))) l₁₃) ∷ ‵ (froom (tyRef erased mut (pointee (Ev .written))) l₁₂ 0) ∷ ‵ (fdies (tyRef erased mut (pointee (Ev .written))) l₁₂) ∷ ‵ (froom (sliceTy (tyRef erased mut (pointee (Ev .written)))) l₁₁ 0) ∷ ‵ (fdies (sliceTy (tyRef erased mut (pointee (Ev .written)))) l₁₁) ∷ ‵ (froom (tyRef erased mut (pointee (Ev .written))) l₁₀ 0) ∷ ‵ (fdies (tyRef erased mut (pointee (Ev .written))) l₁₀) ∷ ‵ (froom tyBool l₉ 0) ∷ ‵ (fdies tyBool l₉) ∷ ‵ (froom wn-ty l₈ 0) ∷ ‵ (fdies wn-ty l₈) ∷ ‵ (froom wn-ty l₇ 0) ∷ ‵ (fdies wn-ty l₇) ∷ ‵ (froom wn-ty l₆ 0) ∷ ‵ (fdies wn-ty l₆) ∷ ‵ (froom wn-ty l₅ 0) ∷ ‵ (fdies wn-ty l₅) ∷ ‵ (froom (sliceTy (tyRef (named 1) mut (pointee (Ev .written)))) l₄ 0) ∷ ‵ (fdies (sliceTy (tyRef (named 1) mut (pointee (Ev .written)))) l₄) ∷ ‵ (froom (tyInt w32) l₃ 0) ∷ ‵ (fdies (tyInt w32) l₃) ∷ ‵ (froom wn-ty l₂ 0) ∷ ‵ (fdies wn-ty l₂) ∷ ‵ (froom (sliceTy (tyRef (named 0) imm (pointee (u8 .written)))) l₁ 0) ∷ ‵ (fdies (sliceTy (tyRef (named 0) imm (pointee (u8 .written)))) l₁) ∷ ‵ (fat fullShare wn-ty l₀ 0 (wn .val r)) ∷ ‵ (fdies wn-ty l₀) ∷ []) (runs C Λ En code-mir.t-4 (atRet En Post))
+      leaves : (zs′ : List (Ev .Denot)) (zs′-len : length zs′ ≡ length ys) (r : Wn .Denot) (r-ok : Is Wn r (vals wn r)) (said : (r ≡ writtenAt (lastPoint bs (pointAt w)) (w .slot + length (rowsResult (eqb (w .at) (w .at)) (bodyAfter bs (pointAt w))))) × (zs′ ≡ wrote (w .slot) (rowsResult (eqb (w .at) (w .at)) (bodyAfter bs (pointAt w))) ys)) → Sq W (‵ (Shr u8 κ b o (length bs) γ bs) ∷ ‵ (flft κ q) ∷ ‵ (Mut Ev κ′ b′ o′ (length ys) γ′ zs′) ∷ ‵ (flft κ′ q′) ∷ ‵ (froom (sliceTy (tyRef erased mut (pointee (Ev .written)))) l₁₆ 0) ∷ ‵ (fdies (sliceTy (tyRef erased mut (pointee (Ev .written)))) l₁₆) ∷ ‵ (froom (tyRef erased mut (pointee (Ev .written))) l₁₅ 0) ∷ ‵ (fdies (tyRef erased mut (pointee (Ev .written))) l₁₅) ∷ ‵ (froom ev-ty l₁₄ 0) ∷ ‵ (fdies ev-ty l₁₄) ∷ ‵ (froom (sliceTy (tyRef erased mut (pointee (Ev .written)))) l₁₃ 0) ∷ ‵ (fdies (sliceTy (tyRef erased mut (pointee (Ev .written)))) l₁₃) ∷ ‵ (froom (tyRef erased mut (pointee (Ev .written))) l₁₂ 0) ∷ ‵ (fdies (tyRef erased mut (pointee (Ev .written))) l₁₂) ∷ ‵ (froom (sliceTy (tyRef erased mut (pointee (Ev .written)))) l₁₁ 0) ∷ ‵ (fdies (sliceTy (tyRef erased mut (pointee (Ev .written)))) l₁₁) ∷ ‵ (froom (tyRef erased mut (pointee (Ev .written))) l₁₀ 0) ∷ ‵ (fdies (tyRef erased mut (pointee (Ev .written))) l₁₀) ∷ ‵ (froom tyBool l₉ 0) ∷ ‵ (fdies tyBool l₉) ∷ ‵ (froom wn-ty l₈ 0) ∷ ‵ (fdies wn-ty l₈) ∷ ‵ (froom wn-ty l₇ 0) ∷ ‵ (fdies wn-ty l₇) ∷ ‵ (froom wn-ty l₆ 0) ∷ ‵ (fdies wn-ty l₆) ∷ ‵ (froom wn-ty l₅ 0) ∷ ‵ (fdies wn-ty l₅) ∷ ‵ (froom (sliceTy (tyRef (named 1) mut (pointee (Ev .written)))) l₄ 0) ∷ ‵ (fdies (sliceTy (tyRef (named 1) mut (pointee (Ev .written)))) l₄) ∷ ‵ (froom (tyInt w32) l₃ 0) ∷ ‵ (fdies (tyInt w32) l₃) ∷ ‵ (froom wn-ty l₂ 0) ∷ ‵ (fdies wn-ty l₂) ∷ ‵ (froom (sliceTy (tyRef (named 0) imm (pointee (u8 .written)))) l₁ 0) ∷ ‵ (fdies (sliceTy (tyRef (named 0) imm (pointee (u8 .written)))) l₁) ∷ ‵ (fat fullShare wn-ty l₀ 0 (wn .val r)) ∷ ‵ (fdies wn-ty l₀) ∷ []) (runs C Λ En code-mir.t-4 (atRet En Post))
       leaves zs′ zs′-len r r-ok said =
-          returns ! (look ! 38 refl) $ forget ! 38 refl $ move ! (38 ∷ 39 ∷ []) $ free1 ! $ move ! (36 ∷ 37 ∷ []) $ free1 ! $ move ! (34 ∷ 35 ∷ []) $ free1 ! $ move ! (32 ∷ 33 ∷ []) $ free1 ! $ move ! (30 ∷ 31 ∷ []) $ free1 ! $ move ! (28 ∷ 29 ∷ []) $ free1 ! $ move ! (26 ∷ 27 ∷ []) $ free1 ! $ move ! (24 ∷ 25 ∷ []) $ free1 ! $ move ! (22 ∷ 23 ∷ []) $ free1 ! $ move ! (20 ∷ 21 ∷ []) $ free1 ! $ move ! (18 ∷ 19 ∷ []) $ free1 ! $ move ! (16 ∷ 17 ∷ []) $ free1 ! $ move ! (14 ∷ 15 ∷ []) $ free1 ! $ move ! (12 ∷ 13 ∷ []) $ free1 ! $ move ! (10 ∷ 11 ∷ []) $ free1 ! $ move ! (8 ∷ 9 ∷ []) $ free1 ! $ move ! (6 ∷ 7 ∷ []) $ free1 ! $ move ! (4 ∷ 5 ∷ []) $ free1 ! $ free0 ! $ by ! (exits zs′ zs′-len r r-ok said)
+          returns ! (look ! 36 refl) $ forget ! 36 refl $ move ! (36 ∷ 37 ∷ []) $ free1 ! $ move ! (34 ∷ 35 ∷ []) $ free1 ! $ move ! (32 ∷ 33 ∷ []) $ free1 ! $ move ! (30 ∷ 31 ∷ []) $ free1 ! $ move ! (28 ∷ 29 ∷ []) $ free1 ! $ move ! (26 ∷ 27 ∷ []) $ free1 ! $ move ! (24 ∷ 25 ∷ []) $ free1 ! $ move ! (22 ∷ 23 ∷ []) $ free1 ! $ move ! (20 ∷ 21 ∷ []) $ free1 ! $ move ! (18 ∷ 19 ∷ []) $ free1 ! $ move ! (16 ∷ 17 ∷ []) $ free1 ! $ move ! (14 ∷ 15 ∷ []) $ free1 ! $ move ! (12 ∷ 13 ∷ []) $ free1 ! $ move ! (10 ∷ 11 ∷ []) $ free1 ! $ move ! (8 ∷ 9 ∷ []) $ free1 ! $ move ! (6 ∷ 7 ∷ []) $ free1 ! $ move ! (4 ∷ 5 ∷ []) $ free1 ! $ free0 ! $ by ! (exits zs′ zs′-len r r-ok said)
 
       -- the invariant: what the slices own and their tokens, and the locals
       abbrev At : Turn → List (Item 𝓤)
-      At t = ‵ (Shr u8 κ b o (length bs) γ bs) ∷ ‵ (flft κ q) ∷ ‵ (Mut Ev κ′ b′ o′ (length ys) γ′ (t .zs)) ∷ ‵ (flft κ′ q′) ∷ ‵ (froom (sliceTy (tyRef erased mut (pointee (Ev .written)))) l₁₇ 0) ∷ ‵ (fdies (sliceTy (tyRef erased mut (pointee (Ev .written)))) l₁₇) ∷ ‵ (froom (tyRef erased mut (pointee (Ev .written))) l₁₆ 0) ∷ ‵ (fdies (tyRef erased mut (pointee (Ev .written))) l₁₆) ∷ ‵ (froom pa-ty l₁₅ 0) ∷ ‵ (fdies pa-ty l₁₅) ∷ ‵ (froom ev-ty l₁₄ 0) ∷ ‵ (fdies ev-ty l₁₄) ∷ ‵ (froom (sliceTy (tyRef erased mut (pointee (Ev .written)))) l₁₃ 0) ∷ ‵ (fdies (sliceTy (tyRef erased mut (pointee (Ev .written)))) l₁₃) ∷ ‵ (froom (tyRef erased mut (pointee (Ev .written))) l₁₂ 0) ∷ ‵ (fdies (tyRef erased mut (pointee (Ev .written))) l₁₂) ∷ ‵ (froom (sliceTy (tyRef erased mut (pointee (Ev .written)))) l₁₁ 0) ∷ ‵ (fdies (sliceTy (tyRef erased mut (pointee (Ev .written)))) l₁₁) ∷ ‵ (froom (tyRef erased mut (pointee (Ev .written))) l₁₀ 0) ∷ ‵ (fdies (tyRef erased mut (pointee (Ev .written))) l₁₀) ∷ ‵ (froom tyBool l₉ 0) ∷ ‵ (fdies tyBool l₉) ∷ ‵ (froom wn-ty l₈ 0) ∷ ‵ (fdies wn-ty l₈) ∷ ‵ (froom wn-ty l₇ 0) ∷ ‵ (fdies wn-ty l₇) ∷ ‵ (froom wn-ty l₆ 0) ∷ ‵ (fdies wn-ty l₆) ∷ ‵ (fat fullShare wn-ty l₅ 0 (wn .val (t .s))) ∷ ‵ (fdies wn-ty l₅) ∷ ‵ (fat fullShare (sliceTy (tyRef (named 1) mut (pointee (Ev .written)))) l₄ 0 (sliceVal (b′, o′) (length ys))) ∷ ‵ (fdies (sliceTy (tyRef (named 1) mut (pointee (Ev .written)))) l₄) ∷ ‵ (fat fullShare (tyInt w32) l₃ 0 (vint w32 halt)) ∷ ‵ (fdies (tyInt w32) l₃) ∷ ‵ (fat fullShare wn-ty l₂ 0 (wn .val w)) ∷ ‵ (fdies wn-ty l₂) ∷ ‵ (fat fullShare (sliceTy (tyRef (named 0) imm (pointee (u8 .written)))) l₁ 0 (sliceVal (b, o) (length bs))) ∷ ‵ (fdies (sliceTy (tyRef (named 0) imm (pointee (u8 .written)))) l₁) ∷ ‵ (froom wn-ty l₀ 0) ∷ ‵ (fdies wn-ty l₀) ∷ []
+      At t = ‵ (Shr u8 κ b o (length bs) γ bs) ∷ ‵ (flft κ q) ∷ ‵ (Mut Ev κ′ b′ o′ (length ys) γ′ (t .zs)) ∷ ‵ (flft κ′ q′) ∷ ‵ (froom (sliceTy (tyRef erased mut (pointee (Ev .written)))) l₁₆ 0) ∷ ‵ (fdies (sliceTy (tyRef erased mut (pointee (Ev .written)))) l₁₆) ∷ ‵ (froom (tyRef erased mut (pointee (Ev .written))) l₁₅ 0) ∷ ‵ (fdies (tyRef erased mut (pointee (Ev .written))) l₁₅) ∷ ‵ (froom ev-ty l₁₄ 0) ∷ ‵ (fdies ev-ty l₁₄) ∷ ‵ (froom (sliceTy (tyRef erased mut (pointee (Ev .written)))) l₁₃ 0) ∷ ‵ (fdies (sliceTy (tyRef erased mut (pointee (Ev .written)))) l₁₃) ∷ ‵ (froom (tyRef erased mut (pointee (Ev .written))) l₁₂ 0) ∷ ‵ (fdies (tyRef erased mut (pointee (Ev .written))) l₁₂) ∷ ‵ (froom (sliceTy (tyRef erased mut (pointee (Ev .written)))) l₁₁ 0) ∷ ‵ (fdies (sliceTy (tyRef erased mut (pointee (Ev .written)))) l₁₁) ∷ ‵ (froom (tyRef erased mut (pointee (Ev .written))) l₁₀ 0) ∷ ‵ (fdies (tyRef erased mut (pointee (Ev .written))) l₁₀) ∷ ‵ (froom tyBool l₉ 0) ∷ ‵ (fdies tyBool l₉) ∷ ‵ (froom wn-ty l₈ 0) ∷ ‵ (fdies wn-ty l₈) ∷ ‵ (froom wn-ty l₇ 0) ∷ ‵ (fdies wn-ty l₇) ∷ ‵ (froom wn-ty l₆ 0) ∷ ‵ (fdies wn-ty l₆) ∷ ‵ (fat fullShare wn-ty l₅ 0 (wn .val (t .s))) ∷ ‵ (fdies wn-ty l₅) ∷ ‵ (fat fullShare (sliceTy (tyRef (named 1) mut (pointee (Ev .written)))) l₄ 0 (sliceVal (b′, o′) (length ys))) ∷ ‵ (fdies (sliceTy (tyRef (named 1) mut (pointee (Ev .written)))) l₄) ∷ ‵ (fat fullShare (tyInt w32) l₃ 0 (vint w32 halt)) ∷ ‵ (fdies (tyInt w32) l₃) ∷ ‵ (fat fullShare wn-ty l₂ 0 (wn .val w)) ∷ ‵ (fdies wn-ty l₂) ∷ ‵ (fat fullShare (sliceTy (tyRef (named 0) imm (pointee (u8 .written)))) l₁ 0 (sliceVal (b, o) (length bs))) ∷ ‵ (fdies (sliceTy (tyRef (named 0) imm (pointee (u8 .written)))) l₁) ∷ ‵ (froom wn-ty l₀ 0) ∷ ‵ (fdies wn-ty l₀) ∷ []
 
       -- a turn's postcondition: it ends with fewer to come, or the loop is left and the rest of the body runs
       abbrev Turned : Turn → Out → SProp 𝓤
@@ -161,54 +146,49 @@ module _ {M : Type 1} (𝓤 : URA M) (H : Heap 𝓤) (A : Atoms 𝓤) (W : Given
       turns : (t : Turn) → Sq W (At t) (runs C Λ En code-mir.turn-1 (anyQ (Turned t)))
       unfolding afterTurn
       turns t =
-          assigns ! (bin ! (load ! (from ! (fld ! refl (stop !))) (look-in ! 28 (sub ! 1 refl (whole !)))) (load ! (from ! (stop !)) (look ! 32 refl)) tt) (from ! (stop !)) (init ! 20 refl (tt, tt)) $  -- _9 := lt(_5.1, _3)
-          first ! $ branches ! (load ! (from ! (stop !)) (look ! 20 refl))
+          assigns ! (bin ! (load ! (from ! (fld ! refl (stop !))) (look-in ! 26 (sub ! 1 refl (whole !)))) (load ! (from ! (stop !)) (look ! 30 refl)) tt) (from ! (stop !)) (init ! 18 refl (tt, tt)) $  -- _9 := lt(_5.1, _3)
+          first ! $ branches ! (load ! (from ! (stop !)) (look ! 18 refl))
           (λ less. skips ! $ exec ! C Λ En (tl (tl code-mir.turn-1)) (anyQ (Turned t)) $
-          assigns ! (addr ! (from ! (fld ! refl (hop ! (look-in ! 30 (sub ! 0 refl (whole !))) (stop !))))) (from ! (stop !)) (init ! 18 refl (tt, tt)) $  -- _10 := &(*_4.0)
-          assigns ! (agg ! (and-then ! (load ! (from ! (stop !)) (look ! 18 refl)) (and-then ! (load ! (from ! (fld ! refl (stop !))) (look-in ! 30 (sub ! 1 refl (whole !)))) (no-more !)))) (from ! (stop !)) (init ! 16 refl (tt, (tt, (record { fits = room′ .0 }, tt)))) $  -- _11 := {_10, _4.1}
+          assigns ! (addr ! (from ! (fld ! refl (hop ! (look-in ! 28 (sub ! 0 refl (whole !))) (stop !))))) (from ! (stop !)) (init ! 16 refl (tt, tt)) $  -- _10 := &(*_4.0)
+          assigns ! (agg ! (and-then ! (load ! (from ! (stop !)) (look ! 16 refl)) (and-then ! (load ! (from ! (fld ! refl (stop !))) (look-in ! 28 (sub ! 1 refl (whole !)))) (no-more !)))) (from ! (stop !)) (init ! 14 refl (tt, (tt, (record { fits = room′ .0 }, tt)))) $  -- _11 := {_10, _4.1}
           -- _6 := results::result_break(_1, _5, _11)
           copies ! u8 bs b o _ $ move ! (3 ∷ 4 ∷ []) $ lends ! tt Ev (t .zs) b′ o′ (length ys) (t .len) room′ (λ ν1c δ1c. move ! (3 ∷ 5 ∷ 0 ∷ 1 ∷ []) $
           cut (‵ (Shr u8 κ b o (length bs) γ bs) ∷ ‵ (flft κ q) ∷ ‵ (Mut Ev (ν1c ∷ []) b′ o′ (length ys) δ1c (t .zs)) ∷ ‵ (flft (ν1c ∷ []) fullShare) ∷ []) (raw (ResultsResultBreak′ 𝓤 H A mem run′ .pre (to-results-result-break κ q b o (length bs) γ bs (t .s) (ν1c ∷ []) fullShare b′ o′ (length ys) δ1c (t .zs))) ∷ []) _ (asks-results-result-break κ q b o (length bs) γ bs (t .s) (ν1c ∷ []) fullShare b′ o′ (length ys) δ1c (t .zs) (t .fits .0) (t .fits .1 .at, omega (arith, turned less .small))) $
-          calls-with ! (fmOf 𝓤 H (W .laws) 𝓣) results-result-break.ended (results-result-break.clauses 𝓤 H A mem run′) known-results-result-break (to-results-result-break κ q b o (length bs) γ bs (t .s) (ν1c ∷ []) fullShare b′ o′ (length ys) δ1c (t .zs)) wn (writtenAt (after bs (pointAt (t .s))) (t .s .slot + 2)) (λ ws. ws .1 .1 .0 ≡ (wrote (t .s .slot) (breakResult bs (pointAt (t .s))) (t .zs))) (λ r ws. id⊢ 𝓤 _) (and-then ! (load ! (from ! (stop !)) (look ! 35 refl)) (and-then ! (load ! (from ! (stop !)) (look ! 27 refl)) (and-then ! (load ! (from ! (stop !)) (look ! 15 refl)) (no-more !)))) (λ ok1 ws1 e1.
+          calls-with ! (fmOf 𝓤 H (W .laws) 𝓣) results-result-break.ended (results-result-break.clauses 𝓤 H A mem run′) known-results-result-break (to-results-result-break κ q b o (length bs) γ bs (t .s) (ν1c ∷ []) fullShare b′ o′ (length ys) δ1c (t .zs)) wn (writtenAt (after bs (pointAt (t .s))) (t .s .slot + 2)) (λ ws. ws .1 .1 .0 ≡ (wrote (t .s .slot) (breakResult bs (pointAt (t .s))) (t .zs))) (λ r ws. id⊢ 𝓤 _) (and-then ! (load ! (from ! (stop !)) (look ! 33 refl)) (and-then ! (load ! (from ! (stop !)) (look ! 25 refl)) (and-then ! (load ! (from ! (stop !)) (look ! 13 refl)) (no-more !)))) (λ ok1 ws1 e1.
           fsplit ! $ drop ! $ fsplit ! $ drop ! $ fsplit ! $ fsplit ! $ move ! (1 ∷ []) $ feqL ! (λ len1c. move ! (1 ∷ []) $ drop ! $ move ! (1 ∷ []) $ use1 W (‵ (flft κ q) ⊛ (‵ (flft (ν1c ∷ []) fullShare) ⊛ ‵ ftrue)) (id⊢ 𝓤 _) $ split ! $ move ! (1 ∷ []) $ split ! $ move ! (1 ∷ []) $ drop ! $ move ! (0 ∷ 3 ∷ 2 ∷ []) $ home ! tt Ev (t .zs) (ws1 .1 .1 .0) (wrote (t .s .slot) (breakResult bs (pointAt (t .s))) (t .zs)) b′ o′ (length ys) (t .len) room′ len1c e1 (λ ys1-len.
-          land ! (from ! (stop !)) (init ! 26 refl (typed wn W (writtenAt (after bs (pointAt (t .s))) (t .s .slot + 2)) ok1 .0)) $
-          assigns ! (addr ! (from ! (fld ! refl (hop ! (look-in ! 30 (sub ! 0 refl (whole !))) (stop !))))) (from ! (stop !)) (init ! 14 refl (tt, tt)) $  -- _12 := &(*_4.0)
-          assigns ! (agg ! (and-then ! (load ! (from ! (stop !)) (look ! 14 refl)) (and-then ! (load ! (from ! (fld ! refl (stop !))) (look-in ! 30 (sub ! 1 refl (whole !)))) (no-more !)))) (from ! (stop !)) (init ! 12 refl (tt, (tt, (record { fits = room′ .0 }, tt)))) $  -- _13 := {_12, _4.1}
+          land ! (from ! (stop !)) (init ! 24 refl (typed wn W (writtenAt (after bs (pointAt (t .s))) (t .s .slot + 2)) ok1 .0)) $
+          assigns ! (addr ! (from ! (fld ! refl (hop ! (look-in ! 28 (sub ! 0 refl (whole !))) (stop !))))) (from ! (stop !)) (init ! 12 refl (tt, tt)) $  -- _12 := &(*_4.0)
+          assigns ! (agg ! (and-then ! (load ! (from ! (stop !)) (look ! 12 refl)) (and-then ! (load ! (from ! (fld ! refl (stop !))) (look-in ! 28 (sub ! 1 refl (whole !)))) (no-more !)))) (from ! (stop !)) (init ! 10 refl (tt, (tt, (record { fits = room′ .0 }, tt)))) $  -- _13 := {_12, _4.1}
           -- _9 := results::is_same(_2.1, _5.1)
           use0 W (raw (ResultsIsSame′ 𝓤 H A mem run′ .pre (to-results-is-same (w .at) ((t .s) .at)))) (asks-results-is-same (w .at) ((t .s) .at) (wn-at w w-ok) (wn-at (t .s) (t .fits .0))) $
-          calls-plain ! (fmOf 𝓤 H (W .laws) 𝓣) results-is-same.ended (results-is-same.clauses 𝓤 H A mem run′) known-results-is-same (to-results-is-same (w .at) ((t .s) .at)) bool-data (eqb (w .at) (t .s .at)) (λ r ws. id⊢ 𝓤 _) (and-then ! (load ! (from ! (fld ! refl (stop !))) (look-in ! 35 (sub ! 1 refl (whole !)))) (and-then ! (load ! (from ! (fld ! refl (stop !))) (look-in ! 29 (sub ! 1 refl (whole !)))) (no-more !))) (λ ok2.
+          calls-plain ! (fmOf 𝓤 H (W .laws) 𝓣) results-is-same.ended (results-is-same.clauses 𝓤 H A mem run′) known-results-is-same (to-results-is-same (w .at) ((t .s) .at)) bool-data (eqb (w .at) (t .s .at)) (λ r ws. id⊢ 𝓤 _) (and-then ! (load ! (from ! (fld ! refl (stop !))) (look-in ! 33 (sub ! 1 refl (whole !)))) (and-then ! (load ! (from ! (fld ! refl (stop !))) (look-in ! 27 (sub ! 1 refl (whole !)))) (no-more !))) (λ ok2.
           drop ! $
-          land ! (from ! (stop !)) (store ! 20 refl (tt, tt)) $
+          land ! (from ! (stop !)) (store ! 18 refl (tt, tt)) $
           -- _14 := results::name_entry(5u8, _6)
           use0 W (raw (ResultsNameEntry′ 𝓤 H A mem run′ .pre (to-results-name-entry 5 (writtenAt (after bs (pointAt (t .s))) (t .s .slot + 2))))) (asks-results-name-entry 5 (writtenAt (after bs (pointAt (t .s))) (t .s .slot + 2)) (refl, lit< tt) ok1) $
-          calls-plain ! (fmOf 𝓤 H (W .laws) 𝓣) results-name-entry.ended (results-name-entry.clauses 𝓤 H A mem run′) known-results-name-entry (to-results-name-entry 5 (writtenAt (after bs (pointAt (t .s))) (t .s .slot + 2))) ev (entryAt GfmTableBody (after bs (pointAt (t .s)))) (λ r ws. id⊢ 𝓤 _) (and-then ! (lit ! tt) (and-then ! (load ! (from ! (stop !)) (look ! 27 refl)) (no-more !))) (λ ok3.
+          calls-plain ! (fmOf 𝓤 H (W .laws) 𝓣) results-name-entry.ended (results-name-entry.clauses 𝓤 H A mem run′) known-results-name-entry (to-results-name-entry 5 (writtenAt (after bs (pointAt (t .s))) (t .s .slot + 2))) ev (entryAt GfmTableBody (after bs (pointAt (t .s)))) (λ r ws. id⊢ 𝓤 _) (and-then ! (lit ! tt) (and-then ! (load ! (from ! (stop !)) (look ! 25 refl)) (no-more !))) (λ ok3.
           drop ! $
-          land ! (from ! (stop !)) (init ! 10 refl (typed ev W (entryAt GfmTableBody (after bs (pointAt (t .s)))) ok3 .0)) $
+          land ! (from ! (stop !)) (init ! 8 refl (typed ev W (entryAt GfmTableBody (after bs (pointAt (t .s)))) ok3 .0)) $
           -- _7 := results::write_if(_13, _9, _6, _14)
           lends ! tt Ev (wrote (t .s .slot) (breakResult bs (pointAt (t .s))) (t .zs)) b′ o′ (length ys) ys1-len room′ (λ ν4a δ4a.
           cut (‵ (Mut Ev (ν4a ∷ []) b′ o′ (length ys) δ4a (wrote (t .s .slot) (breakResult bs (pointAt (t .s))) (t .zs))) ∷ ‵ (flft (ν4a ∷ []) fullShare) ∷ []) (raw (ResultsWriteIf′ 𝓤 H A mem run′ .pre (to-results-write-if (ν4a ∷ []) fullShare b′ o′ (length ys) δ4a (wrote (t .s .slot) (breakResult bs (pointAt (t .s))) (t .zs)) (eqb (w .at) (t .s .at)) (writtenAt (after bs (pointAt (t .s))) (t .s .slot + 2)) (entryAt GfmTableBody (after bs (pointAt (t .s)))))) ∷ []) _ (asks-results-write-if (ν4a ∷ []) fullShare b′ o′ (length ys) δ4a (wrote (t .s .slot) (breakResult bs (pointAt (t .s))) (t .zs)) (eqb (w .at) (t .s .at)) (writtenAt (after bs (pointAt (t .s))) (t .s .slot + 2)) (entryAt GfmTableBody (after bs (pointAt (t .s)))) ok2 ok1 ok3 (turned less .small)) $
-          calls-with ! (fmOf 𝓤 H (W .laws) 𝓣) results-write-if.ended (results-write-if.clauses 𝓤 H A mem run′) known-results-write-if (to-results-write-if (ν4a ∷ []) fullShare b′ o′ (length ys) δ4a (wrote (t .s .slot) (breakResult bs (pointAt (t .s))) (t .zs)) (eqb (w .at) (t .s .at)) (writtenAt (after bs (pointAt (t .s))) (t .s .slot + 2)) (entryAt GfmTableBody (after bs (pointAt (t .s))))) wn (writtenAt (after bs (pointAt (t .s))) (rowSlot bs (w .at) halt (t .s))) (λ ws. ws .0 ≡ (wrote (t .s .slot + 2) (eventIf (eqb (w .at) (t .s .at)) (entryAt GfmTableBody (after bs (pointAt (t .s))))) (wrote (t .s .slot) (breakResult bs (pointAt (t .s))) (t .zs)))) (λ r ws. id⊢ 𝓤 _) (and-then ! (load ! (from ! (stop !)) (look ! 12 refl)) (and-then ! (load ! (from ! (stop !)) (look ! 20 refl)) (and-then ! (load ! (from ! (stop !)) (look ! 26 refl)) (and-then ! (load ! (from ! (stop !)) (look ! 10 refl)) (no-more !))))) (λ ok4 ws4 e4.
+          calls-with ! (fmOf 𝓤 H (W .laws) 𝓣) results-write-if.ended (results-write-if.clauses 𝓤 H A mem run′) known-results-write-if (to-results-write-if (ν4a ∷ []) fullShare b′ o′ (length ys) δ4a (wrote (t .s .slot) (breakResult bs (pointAt (t .s))) (t .zs)) (eqb (w .at) (t .s .at)) (writtenAt (after bs (pointAt (t .s))) (t .s .slot + 2)) (entryAt GfmTableBody (after bs (pointAt (t .s))))) wn (writtenAt (after bs (pointAt (t .s))) (rowSlot bs (w .at) halt (t .s))) (λ ws. ws .0 ≡ (wrote (t .s .slot + 2) (eventIf (eqb (w .at) (t .s .at)) (entryAt GfmTableBody (after bs (pointAt (t .s))))) (wrote (t .s .slot) (breakResult bs (pointAt (t .s))) (t .zs)))) (λ r ws. id⊢ 𝓤 _) (and-then ! (load ! (from ! (stop !)) (look ! 10 refl)) (and-then ! (load ! (from ! (stop !)) (look ! 18 refl)) (and-then ! (load ! (from ! (stop !)) (look ! 24 refl)) (and-then ! (load ! (from ! (stop !)) (look ! 8 refl)) (no-more !))))) (λ ok4 ws4 e4.
           fsplit ! $ fsplit ! $ move ! (1 ∷ []) $ feqL ! (λ len4a. move ! (1 ∷ []) $ drop ! $ move ! (1 ∷ []) $ use1 W (‵ (flft (ν4a ∷ []) fullShare) ⊛ ‵ ftrue) (id⊢ 𝓤 _) $ split ! $ move ! (1 ∷ []) $ drop ! $ move ! (0 ∷ 2 ∷ 1 ∷ []) $ home ! tt Ev (wrote (t .s .slot) (breakResult bs (pointAt (t .s))) (t .zs)) (ws4 .0) (wrote (t .s .slot + 2) (eventIf (eqb (w .at) (t .s .at)) (entryAt GfmTableBody (after bs (pointAt (t .s))))) (wrote (t .s .slot) (breakResult bs (pointAt (t .s))) (t .zs))) b′ o′ (length ys) ys1-len room′ len4a e4 (λ ys4-len.
-          land ! (from ! (stop !)) (init ! 24 refl (typed wn W (writtenAt (after bs (pointAt (t .s))) (rowSlot bs (w .at) halt (t .s))) ok4 .0)) $
-          -- _15 := results::text_part()
-          use0 W (raw (ResultsTextPart′ 𝓤 H A mem run′ .pre to-results-text-part)) asks-results-text-part $
-          calls-plain ! (fmOf 𝓤 H (W .laws) 𝓣) results-text-part.ended (results-text-part.clauses 𝓤 H A mem run′) known-results-text-part to-results-text-part pa Body (λ r ws. id⊢ 𝓤 _) (no-more !) (λ ok5.
-          drop ! $
-          land ! (from ! (stop !)) (init ! 8 refl (typed pa W Body ok5 .0)) $
-          assigns ! (addr ! (from ! (fld ! refl (hop ! (look-in ! 30 (sub ! 0 refl (whole !))) (stop !))))) (from ! (stop !)) (init ! 6 refl (tt, tt)) $  -- _16 := &(*_4.0)
-          assigns ! (agg ! (and-then ! (load ! (from ! (stop !)) (look ! 6 refl)) (and-then ! (load ! (from ! (fld ! refl (stop !))) (look-in ! 30 (sub ! 1 refl (whole !)))) (no-more !)))) (from ! (stop !)) (init ! 4 refl (tt, (tt, (record { fits = room′ .0 }, tt)))) $  -- _17 := {_16, _4.1}
-          -- _8 := results::result_row(_1, _15, _7.0, _7.1, _17, _7.3)
+          land ! (from ! (stop !)) (init ! 22 refl (typed wn W (writtenAt (after bs (pointAt (t .s))) (rowSlot bs (w .at) halt (t .s))) ok4 .0)) $
+          assigns ! (addr ! (from ! (fld ! refl (hop ! (look-in ! 28 (sub ! 0 refl (whole !))) (stop !))))) (from ! (stop !)) (init ! 6 refl (tt, tt)) $  -- _15 := &(*_4.0)
+          assigns ! (agg ! (and-then ! (load ! (from ! (stop !)) (look ! 6 refl)) (and-then ! (load ! (from ! (fld ! refl (stop !))) (look-in ! 28 (sub ! 1 refl (whole !)))) (no-more !)))) (from ! (stop !)) (init ! 4 refl (tt, (tt, (record { fits = room′ .0 }, tt)))) $  -- _16 := {_15, _4.1}
+          -- _8 := results::result_text_row(_1, _7.0, _7.1, _16, _7.3)
           move ! (3 ∷ []) $ copies ! u8 bs b o _ $ move ! (2 ∷ 3 ∷ []) $ lends ! tt Ev (wrote (t .s .slot + 2) (eventIf (eqb (w .at) (t .s .at)) (entryAt GfmTableBody (after bs (pointAt (t .s))))) (wrote (t .s .slot) (breakResult bs (pointAt (t .s))) (t .zs))) b′ o′ (length ys) ys4-len room′ (λ ν6e δ6e. move ! (3 ∷ 5 ∷ 0 ∷ 1 ∷ []) $
-          cut (‵ (Shr u8 κ b o (length bs) γ bs) ∷ ‵ (flft κ q) ∷ ‵ (Mut Ev (ν6e ∷ []) b′ o′ (length ys) δ6e (wrote (t .s .slot + 2) (eventIf (eqb (w .at) (t .s .at)) (entryAt GfmTableBody (after bs (pointAt (t .s))))) (wrote (t .s .slot) (breakResult bs (pointAt (t .s))) (t .zs)))) ∷ ‵ (flft (ν6e ∷ []) fullShare) ∷ []) (raw (ResultsResultRow′ 𝓤 H A mem run′ .pre (to-results-result-row κ q b o (length bs) γ bs Body (writtenAt (after bs (pointAt (t .s))) (rowSlot bs (w .at) halt (t .s)) .line) (writtenAt (after bs (pointAt (t .s))) (rowSlot bs (w .at) halt (t .s)) .at) (ν6e ∷ []) fullShare b′ o′ (length ys) δ6e (wrote (t .s .slot + 2) (eventIf (eqb (w .at) (t .s .at)) (entryAt GfmTableBody (after bs (pointAt (t .s))))) (wrote (t .s .slot) (breakResult bs (pointAt (t .s))) (t .zs))) (writtenAt (after bs (pointAt (t .s))) (rowSlot bs (w .at) halt (t .s)) .slot))) ∷ []) _ (asks-results-result-row κ q b o (length bs) γ bs Body (writtenAt (after bs (pointAt (t .s))) (rowSlot bs (w .at) halt (t .s)) .line) (writtenAt (after bs (pointAt (t .s))) (rowSlot bs (w .at) halt (t .s)) .at) (ν6e ∷ []) fullShare b′ o′ (length ys) δ6e (wrote (t .s .slot + 2) (eventIf (eqb (w .at) (t .s .at)) (entryAt GfmTableBody (after bs (pointAt (t .s))))) (wrote (t .s .slot) (breakResult bs (pointAt (t .s))) (t .zs))) (writtenAt (after bs (pointAt (t .s))) (rowSlot bs (w .at) halt (t .s)) .slot) ok5 (wn-line (writtenAt (after bs (pointAt (t .s))) (rowSlot bs (w .at) halt (t .s))) ok4) (wn-at (writtenAt (after bs (pointAt (t .s))) (rowSlot bs (w .at) halt (t .s))) ok4) (wn-slot (writtenAt (after bs (pointAt (t .s))) (rowSlot bs (w .at) halt (t .s))) ok4) (turned less .row)) $
-          calls-with ! (fmOf 𝓤 H (W .laws) 𝓣) results-result-row.ended (results-result-row.clauses 𝓤 H A mem run′) known-results-result-row (to-results-result-row κ q b o (length bs) γ bs Body (writtenAt (after bs (pointAt (t .s))) (rowSlot bs (w .at) halt (t .s)) .line) (writtenAt (after bs (pointAt (t .s))) (rowSlot bs (w .at) halt (t .s)) .at) (ν6e ∷ []) fullShare b′ o′ (length ys) δ6e (wrote (t .s .slot + 2) (eventIf (eqb (w .at) (t .s .at)) (entryAt GfmTableBody (after bs (pointAt (t .s))))) (wrote (t .s .slot) (breakResult bs (pointAt (t .s))) (t .zs))) (writtenAt (after bs (pointAt (t .s))) (rowSlot bs (w .at) halt (t .s)) .slot)) wn (behindRow bs (w .at) halt (t .s)) (λ ws. ws .1 .1 .1 .1 .0 ≡ (withRow bs (w .at) halt (t .s) (t .zs))) (λ r ws. id⊢ 𝓤 _) (and-then ! (load ! (from ! (stop !)) (look ! 35 refl)) (and-then ! (load ! (from ! (stop !)) (look ! 7 refl)) (and-then ! (load ! (from ! (fld ! refl (stop !))) (look-in ! 23 (sub ! 0 refl (whole !)))) (and-then ! (load ! (from ! (fld ! refl (stop !))) (look-in ! 23 (sub ! 1 refl (whole !)))) (and-then ! (load ! (from ! (stop !)) (look ! 3 refl)) (and-then ! (load ! (from ! (fld ! refl (stop !))) (look-in ! 23 (sub ! 3 refl (whole !)))) (no-more !))))))) (λ ok6 ws6 e6.
-          fsplit ! $ drop ! $ fsplit ! $ drop ! $ fsplit ! $ drop ! $ fsplit ! $ drop ! $ fsplit ! $ fsplit ! $ move ! (1 ∷ []) $ feqL ! (λ len6e. move ! (1 ∷ []) $ drop ! $ move ! (1 ∷ []) $ use1 W (‵ (flft κ q) ⊛ (‵ (flft (ν6e ∷ []) fullShare) ⊛ ‵ ftrue)) (id⊢ 𝓤 _) $ split ! $ move ! (1 ∷ []) $ split ! $ move ! (1 ∷ []) $ drop ! $ move ! (0 ∷ 3 ∷ 2 ∷ []) $ home ! tt Ev (wrote (t .s .slot + 2) (eventIf (eqb (w .at) (t .s .at)) (entryAt GfmTableBody (after bs (pointAt (t .s))))) (wrote (t .s .slot) (breakResult bs (pointAt (t .s))) (t .zs))) (ws6 .1 .1 .1 .1 .0) (withRow bs (w .at) halt (t .s) (t .zs)) b′ o′ (length ys) ys4-len room′ len6e e6 (λ ys6-len.
-          land ! (from ! (stop !)) (init ! 22 refl (typed wn W (behindRow bs (w .at) halt (t .s)) ok6 .0)) $
-          assigns-last ! (of-opd ! (load ! (from ! (stop !)) (look ! 22 refl))) (from ! (stop !)) (store ! 28 refl (typed wn W (behindRow bs (w .at) halt (t .s)) ok6 .0)) $  -- _5 := _8
-          move ! (3 ∷ 2 ∷ 0 ∷ 1 ∷ []) $ forget ! 4 refl $ forget ! 6 refl $ forget ! 8 refl $ forget ! 10 refl $ forget ! 12 refl $ forget ! 14 refl $ forget ! 16 refl $ forget ! 18 refl $ forget ! 20 refl $ forget ! 22 refl $ forget ! 24 refl $ forget ! 26 refl $
-          again ! Fewer At t (T.goes-on (λ (x : Wn .Denot). Is Wn x (vals wn x) × Good bs (w .at) halt x) (λ (x : Wn .Denot). halt - x .at) (makes bs (w .at) halt) ys (makes bs (w .at) halt w ys) t (behindRow bs (w .at) halt (t .s)) (withRow bs (w .at) halt (t .s) (t .zs)) (ok6, turned less .good) ys6-len (turned less .more (t .zs))) (omega (arith, turned less .long, within less))))))))))))))))))
+          cut (‵ (Shr u8 κ b o (length bs) γ bs) ∷ ‵ (flft κ q) ∷ ‵ (Mut Ev (ν6e ∷ []) b′ o′ (length ys) δ6e (wrote (t .s .slot + 2) (eventIf (eqb (w .at) (t .s .at)) (entryAt GfmTableBody (after bs (pointAt (t .s))))) (wrote (t .s .slot) (breakResult bs (pointAt (t .s))) (t .zs)))) ∷ ‵ (flft (ν6e ∷ []) fullShare) ∷ []) (raw (ResultsResultTextRow′ 𝓤 H A mem run′ .pre (to-results-result-text-row κ q b o (length bs) γ bs (writtenAt (after bs (pointAt (t .s))) (rowSlot bs (w .at) halt (t .s)) .line) (writtenAt (after bs (pointAt (t .s))) (rowSlot bs (w .at) halt (t .s)) .at) (ν6e ∷ []) fullShare b′ o′ (length ys) δ6e (wrote (t .s .slot + 2) (eventIf (eqb (w .at) (t .s .at)) (entryAt GfmTableBody (after bs (pointAt (t .s))))) (wrote (t .s .slot) (breakResult bs (pointAt (t .s))) (t .zs))) (writtenAt (after bs (pointAt (t .s))) (rowSlot bs (w .at) halt (t .s)) .slot))) ∷ []) _ (asks-results-result-text-row κ q b o (length bs) γ bs (writtenAt (after bs (pointAt (t .s))) (rowSlot bs (w .at) halt (t .s)) .line) (writtenAt (after bs (pointAt (t .s))) (rowSlot bs (w .at) halt (t .s)) .at) (ν6e ∷ []) fullShare b′ o′ (length ys) δ6e (wrote (t .s .slot + 2) (eventIf (eqb (w .at) (t .s .at)) (entryAt GfmTableBody (after bs (pointAt (t .s))))) (wrote (t .s .slot) (breakResult bs (pointAt (t .s))) (t .zs))) (writtenAt (after bs (pointAt (t .s))) (rowSlot bs (w .at) halt (t .s)) .slot) (wn-line (writtenAt (after bs (pointAt (t .s))) (rowSlot bs (w .at) halt (t .s))) ok4) (wn-at (writtenAt (after bs (pointAt (t .s))) (rowSlot bs (w .at) halt (t .s))) ok4) (wn-slot (writtenAt (after bs (pointAt (t .s))) (rowSlot bs (w .at) halt (t .s))) ok4) (turned less .row)) $
+          calls-with ! (fmOf 𝓤 H (W .laws) 𝓣) results-result-text-row.ended (results-result-text-row.clauses 𝓤 H A mem run′) known-results-result-text-row (to-results-result-text-row κ q b o (length bs) γ bs (writtenAt (after bs (pointAt (t .s))) (rowSlot bs (w .at) halt (t .s)) .line) (writtenAt (after bs (pointAt (t .s))) (rowSlot bs (w .at) halt (t .s)) .at) (ν6e ∷ []) fullShare b′ o′ (length ys) δ6e (wrote (t .s .slot + 2) (eventIf (eqb (w .at) (t .s .at)) (entryAt GfmTableBody (after bs (pointAt (t .s))))) (wrote (t .s .slot) (breakResult bs (pointAt (t .s))) (t .zs))) (writtenAt (after bs (pointAt (t .s))) (rowSlot bs (w .at) halt (t .s)) .slot)) wn (behindRow bs (w .at) halt (t .s)) (λ ws. ws .1 .1 .1 .0 ≡ (withRow bs (w .at) halt (t .s) (t .zs))) (λ r ws. id⊢ 𝓤 _) (and-then ! (load ! (from ! (stop !)) (look ! 33 refl)) (and-then ! (load ! (from ! (fld ! refl (stop !))) (look-in ! 21 (sub ! 0 refl (whole !)))) (and-then ! (load ! (from ! (fld ! refl (stop !))) (look-in ! 21 (sub ! 1 refl (whole !)))) (and-then ! (load ! (from ! (stop !)) (look ! 3 refl)) (and-then ! (load ! (from ! (fld ! refl (stop !))) (look-in ! 21 (sub ! 3 refl (whole !)))) (no-more !)))))) (λ ok6 ws6 e6.
+          fsplit ! $ drop ! $ fsplit ! $ drop ! $ fsplit ! $ drop ! $ fsplit ! $ fsplit ! $ move ! (1 ∷ []) $ feqL ! (λ len6e. move ! (1 ∷ []) $ drop ! $ move ! (1 ∷ []) $ use1 W (‵ (flft κ q) ⊛ (‵ (flft (ν6e ∷ []) fullShare) ⊛ ‵ ftrue)) (id⊢ 𝓤 _) $ split ! $ move ! (1 ∷ []) $ split ! $ move ! (1 ∷ []) $ drop ! $ move ! (0 ∷ 3 ∷ 2 ∷ []) $ home ! tt Ev (wrote (t .s .slot + 2) (eventIf (eqb (w .at) (t .s .at)) (entryAt GfmTableBody (after bs (pointAt (t .s))))) (wrote (t .s .slot) (breakResult bs (pointAt (t .s))) (t .zs))) (ws6 .1 .1 .1 .0) (withRow bs (w .at) halt (t .s) (t .zs)) b′ o′ (length ys) ys4-len room′ len6e e6 (λ ys6-len.
+          land ! (from ! (stop !)) (init ! 20 refl (typed wn W (behindRow bs (w .at) halt (t .s)) ok6 .0)) $
+          assigns-last ! (of-opd ! (load ! (from ! (stop !)) (look ! 20 refl))) (from ! (stop !)) (store ! 26 refl (typed wn W (behindRow bs (w .at) halt (t .s)) ok6 .0)) $  -- _5 := _8
+          move ! (3 ∷ 2 ∷ 0 ∷ 1 ∷ []) $ forget ! 4 refl $ forget ! 6 refl $ forget ! 8 refl $ forget ! 10 refl $ forget ! 12 refl $ forget ! 14 refl $ forget ! 16 refl $ forget ! 18 refl $ forget ! 20 refl $ forget ! 22 refl $ forget ! 24 refl $
+          again ! Fewer At t (T.goes-on (λ (x : Wn .Denot). Is Wn x (vals wn x) × Good bs (w .at) halt x) (λ (x : Wn .Denot). halt - x .at) (makes bs (w .at) halt) ys (makes bs (w .at) halt w ys) t (behindRow bs (w .at) halt (t .s)) (withRow bs (w .at) halt (t .s) (t .zs)) (ok6, turned less .good) ys6-len (turned less .more (t .zs))) (omega (arith, turned less .long, within less)))))))))))))))))
           (λ over. jumps ! $ exec ! C Λ En code-mir.t-3 (atRet En Post) $
-          assigns ! (of-opd ! (load ! (from ! (stop !)) (look ! 28 refl))) (from ! (stop !)) (init ! 38 refl (typed wn W (t .s) (t .fits .0) .0)) $  -- _0 := _5
-          forget ! 20 refl $ forget ! 28 refl $ forget ! 30 refl $ forget ! 32 refl $ forget ! 34 refl $ forget ! 36 refl $ leaves (t .zs) (t .len) (t .s) (t .fits .0) (let e = t .inv ∙ stops bs (w .at) halt (t .s) (t .zs) (t .fits .1) (nltb→le (t .s .at) halt over) in (sym (ap (λ (z : Wn .Denot × List (Ev .Denot)). z .0) e), sym (ap (λ (z : Wn .Denot × List (Ev .Denot)). z .1) e))))
+          assigns ! (of-opd ! (load ! (from ! (stop !)) (look ! 26 refl))) (from ! (stop !)) (init ! 36 refl (typed wn W (t .s) (t .fits .0) .0)) $  -- _0 := _5
+          forget ! 18 refl $ forget ! 26 refl $ forget ! 28 refl $ forget ! 30 refl $ forget ! 32 refl $ forget ! 34 refl $ leaves (t .zs) (t .len) (t .s) (t .fits .0) (let e = t .inv ∙ stops bs (w .at) halt (t .s) (t .zs) (t .fits .1) (nltb→le (t .s .at) halt over) in (sym (ap (λ (z : Wn .Denot × List (Ev .Denot)). z .0) e), sym (ap (λ (z : Wn .Denot × List (Ev .Denot)). z .1) e))))
         where
           within : Holds (ltb ((t .s) .at) halt) → ((t .s) .at) < halt
           within less = ltb→lt ((t .s) .at) halt less
@@ -217,24 +197,24 @@ module _ {M : Type 1} (𝓤 : URA M) (H : Heap 𝓤) (A : Atoms 𝓤) (W : Given
           turned less = goes bs (w .at) halt (t .s) (t .fits .1) (within less)
 
       -- the body, from the entry on
-      -- _17: 4; _16: 6; _15: 8; _14: 10; _13: 12; _12: 14; _11: 16; _10: 18; _9: 20; _8: 22; _7: 24; _6: 26; _5: 28; _4: 30; _3: 32; _2: 34; _1: 36; _0: 38
-      body : Sq W (‵ (Shr u8 κ b o (length bs) γ bs) ∷ ‵ (flft κ q) ∷ ‵ (Mut Ev κ′ b′ o′ (length ys) γ′ ys) ∷ ‵ (flft κ′ q′) ∷ ‵ (froom (sliceTy (tyRef erased mut (pointee (Ev .written)))) l₁₇ 0) ∷ ‵ (fdies (sliceTy (tyRef erased mut (pointee (Ev .written)))) l₁₇) ∷ ‵ (froom (tyRef erased mut (pointee (Ev .written))) l₁₆ 0) ∷ ‵ (fdies (tyRef erased mut (pointee (Ev .written))) l₁₆) ∷ ‵ (froom pa-ty l₁₅ 0) ∷ ‵ (fdies pa-ty l₁₅) ∷ ‵ (froom ev-ty l₁₄ 0) ∷ ‵ (fdies ev-ty l₁₄) ∷ ‵ (froom (sliceTy (tyRef erased mut (pointee (Ev .written)))) l₁₃ 0) ∷ ‵ (fdies (sliceTy (tyRef erased mut (pointee (Ev .written)))) l₁₃) ∷ ‵ (froom (tyRef erased mut (pointee (Ev .written))) l₁₂ 0) ∷ ‵ (fdies (tyRef erased mut (pointee (Ev .written))) l₁₂) ∷ ‵ (froom (sliceTy (tyRef erased mut (pointee (Ev .written)))) l₁₁ 0) ∷ ‵ (fdies (sliceTy (tyRef erased mut (pointee (Ev .written)))) l₁₁) ∷ ‵ (froom (tyRef erased mut (pointee (Ev .written))) l₁₀ 0) ∷ ‵ (fdies (tyRef erased mut (pointee (Ev .written))) l₁₀) ∷ ‵ (froom tyBool l₉ 0) ∷ ‵ (fdies tyBool l₉) ∷ ‵ (froom wn-ty l₈ 0) ∷ ‵ (fdies wn-ty l₈) ∷ ‵ (froom wn-ty l₇ 0) ∷ ‵ (fdies wn-ty l₇) ∷ ‵ (froom wn-ty l₆ 0) ∷ ‵ (fdies wn-ty l₆) ∷ ‵ (froom wn-ty l₅ 0) ∷ ‵ (fdies wn-ty l₅) ∷ ‵ (fat fullShare (sliceTy (tyRef (named 1) mut (pointee (Ev .written)))) l₄ 0 (sliceVal (b′, o′) (length ys))) ∷ ‵ (fdies (sliceTy (tyRef (named 1) mut (pointee (Ev .written)))) l₄) ∷ ‵ (fat fullShare (tyInt w32) l₃ 0 (vint w32 halt)) ∷ ‵ (fdies (tyInt w32) l₃) ∷ ‵ (fat fullShare wn-ty l₂ 0 (wn .val w)) ∷ ‵ (fdies wn-ty l₂) ∷ ‵ (fat fullShare (sliceTy (tyRef (named 0) imm (pointee (u8 .written)))) l₁ 0 (sliceVal (b, o) (length bs))) ∷ ‵ (fdies (sliceTy (tyRef (named 0) imm (pointee (u8 .written)))) l₁) ∷ ‵ (froom wn-ty l₀ 0) ∷ ‵ (fdies wn-ty l₀) ∷ []) (runs C Λ En code-mir.t-1 (atRet En Post))
+      -- _16: 4; _15: 6; _14: 8; _13: 10; _12: 12; _11: 14; _10: 16; _9: 18; _8: 20; _7: 22; _6: 24; _5: 26; _4: 28; _3: 30; _2: 32; _1: 34; _0: 36
+      body : Sq W (‵ (Shr u8 κ b o (length bs) γ bs) ∷ ‵ (flft κ q) ∷ ‵ (Mut Ev κ′ b′ o′ (length ys) γ′ ys) ∷ ‵ (flft κ′ q′) ∷ ‵ (froom (sliceTy (tyRef erased mut (pointee (Ev .written)))) l₁₆ 0) ∷ ‵ (fdies (sliceTy (tyRef erased mut (pointee (Ev .written)))) l₁₆) ∷ ‵ (froom (tyRef erased mut (pointee (Ev .written))) l₁₅ 0) ∷ ‵ (fdies (tyRef erased mut (pointee (Ev .written))) l₁₅) ∷ ‵ (froom ev-ty l₁₄ 0) ∷ ‵ (fdies ev-ty l₁₄) ∷ ‵ (froom (sliceTy (tyRef erased mut (pointee (Ev .written)))) l₁₃ 0) ∷ ‵ (fdies (sliceTy (tyRef erased mut (pointee (Ev .written)))) l₁₃) ∷ ‵ (froom (tyRef erased mut (pointee (Ev .written))) l₁₂ 0) ∷ ‵ (fdies (tyRef erased mut (pointee (Ev .written))) l₁₂) ∷ ‵ (froom (sliceTy (tyRef erased mut (pointee (Ev .written)))) l₁₁ 0) ∷ ‵ (fdies (sliceTy (tyRef erased mut (pointee (Ev .written)))) l₁₁) ∷ ‵ (froom (tyRef erased mut (pointee (Ev .written))) l₁₀ 0) ∷ ‵ (fdies (tyRef erased mut (pointee (Ev .written))) l₁₀) ∷ ‵ (froom tyBool l₉ 0) ∷ ‵ (fdies tyBool l₉) ∷ ‵ (froom wn-ty l₈ 0) ∷ ‵ (fdies wn-ty l₈) ∷ ‵ (froom wn-ty l₇ 0) ∷ ‵ (fdies wn-ty l₇) ∷ ‵ (froom wn-ty l₆ 0) ∷ ‵ (fdies wn-ty l₆) ∷ ‵ (froom wn-ty l₅ 0) ∷ ‵ (fdies wn-ty l₅) ∷ ‵ (fat fullShare (sliceTy (tyRef (named 1) mut (pointee (Ev .written)))) l₄ 0 (sliceVal (b′, o′) (length ys))) ∷ ‵ (fdies (sliceTy (tyRef (named 1) mut (pointee (Ev .written)))) l₄) ∷ ‵ (fat fullShare (tyInt w32) l₃ 0 (vint w32 halt)) ∷ ‵ (fdies (tyInt w32) l₃) ∷ ‵ (fat fullShare wn-ty l₂ 0 (wn .val w)) ∷ ‵ (fdies wn-ty l₂) ∷ ‵ (fat fullShare (sliceTy (tyRef (named 0) imm (pointee (u8 .written)))) l₁ 0 (sliceVal (b, o) (length bs))) ∷ ‵ (fdies (sliceTy (tyRef (named 0) imm (pointee (u8 .written)))) l₁) ∷ ‵ (froom wn-ty l₀ 0) ∷ ‵ (fdies wn-ty l₀) ∷ []) (runs C Λ En code-mir.t-1 (atRet En Post))
       body =
-          assigns ! (of-opd ! (load ! (from ! (stop !)) (look ! 34 refl))) (from ! (stop !)) (init ! 28 refl (typed wn W w w-ok .0)) $  -- _5 := _2
+          assigns ! (of-opd ! (load ! (from ! (stop !)) (look ! 32 refl))) (from ! (stop !)) (init ! 26 refl (typed wn W w w-ok .0)) $  -- _5 := _2
           first ! $ blocks ! $ loops ! 𝓣 Fewer (T.Fewer-wf (λ (x : Wn .Denot). Is Wn x (vals wn x) × Good bs (w .at) halt x) (λ (x : Wn .Denot). halt - x .at) (makes bs (w .at) halt) ys (makes bs (w .at) halt w ys)) At turns (T.starts (λ (x : Wn .Denot). Is Wn x (vals wn x) × Good bs (w .at) halt x) (λ (x : Wn .Denot). halt - x .at) (makes bs (w .at) halt) ys (makes bs (w .at) halt w ys) w (w-ok, record { at = asked .0; onward = omega arith; stops = asked .1; few = asked .2 }) refl)
 
-    walk : (𝓣 : Tables 𝓤 H) (known-results-result-break : Triple 𝓤 (𝓣 .C #sheet·results·result-break) (ResultsResultBreak′ 𝓤 H A mem run′)) (known-results-is-same : Triple 𝓤 (𝓣 .C #sheet·results·is-same) (ResultsIsSame′ 𝓤 H A mem run′)) (known-results-name-entry : Triple 𝓤 (𝓣 .C #sheet·results·name-entry) (ResultsNameEntry′ 𝓤 H A mem run′)) (known-results-write-if : Triple 𝓤 (𝓣 .C #sheet·results·write-if) (ResultsWriteIf′ 𝓤 H A mem run′)) (known-results-text-part : Triple 𝓤 (𝓣 .C #sheet·results·text-part) (ResultsTextPart′ 𝓤 H A mem run′)) (known-results-result-row : Triple 𝓤 (𝓣 .C #sheet·results·result-row) (ResultsResultRow′ 𝓤 H A mem run′)) → ent 𝓤 (onEntry 𝓤 H A result-rows.signature (κ, (κ′, tt)) (q, (q′, tt)) x vs) (WpFn 𝓤 H (𝓣 .C) (𝓣 .Λ) code.function (sliceVal (b, o) (length bs) ∷ wn .val w ∷ vint w32 halt ∷ sliceVal (b′, o′) (length ys) ∷ []) Post)
-    walk 𝓣 known-results-result-break known-results-is-same known-results-name-entry known-results-write-if known-results-text-part known-results-result-row =
+    walk : (𝓣 : Tables 𝓤 H) (known-results-result-break : Triple 𝓤 (𝓣 .C #sheet·results·result-break) (ResultsResultBreak′ 𝓤 H A mem run′)) (known-results-is-same : Triple 𝓤 (𝓣 .C #sheet·results·is-same) (ResultsIsSame′ 𝓤 H A mem run′)) (known-results-name-entry : Triple 𝓤 (𝓣 .C #sheet·results·name-entry) (ResultsNameEntry′ 𝓤 H A mem run′)) (known-results-write-if : Triple 𝓤 (𝓣 .C #sheet·results·write-if) (ResultsWriteIf′ 𝓤 H A mem run′)) (known-results-result-text-row : Triple 𝓤 (𝓣 .C #sheet·results·result-text-row) (ResultsResultTextRow′ 𝓤 H A mem run′)) → ent 𝓤 (onEntry 𝓤 H A result-rows.signature (κ, (κ′, tt)) (q, (q′, tt)) x vs) (WpFn 𝓤 H (𝓣 .C) (𝓣 .Λ) code.function (sliceVal (b, o) (length bs) ∷ wn .val w ∷ vint w32 halt ∷ sliceVal (b′, o′) (length ys) ∷ []) Post)
+    walk 𝓣 known-results-result-break known-results-is-same known-results-name-entry known-results-write-if known-results-result-text-row =
         qed W ((‵ (flft κ q) ⊛ ‵ (flft κ′ q′) ⊛ ‵ ftrue) ∷ ‵ (owns (ShrSlice (named 0) κ u8 ∷ Wn ∷ u32 ∷ MutSlice (named 1) κ′ Ev ∷ []) x vs) ∷ []) ∵ move ! (1 ∷ []) $ fsplit ! $ move ! (1 ∷ []) $ fsplit ! $ move ! (1 ∷ []) $ fsplit ! $ move ! (1 ∷ []) $ fsplit ! $ move ! (1 ∷ []) $ move ! (5 ∷ []) $ split ! $ move ! (1 ∷ []) $ split ! $ keep ! (7 ∷ 2 ∷ 4 ∷ 0 ∷ []) $ enter ! (𝓣 .C) (𝓣 .Λ) code.function (sliceVal (b, o) (length bs) ∷ wn .val w ∷ vint w32 halt ∷ sliceVal (b′, o′) (length ys) ∷ []) _ $
-        alloc1 ! (λ l₀. alloc1 ! (λ l₁. alloc1 ! (λ l₂. alloc1 ! (λ l₃. alloc1 ! (λ l₄. alloc1 ! (λ l₅. alloc1 ! (λ l₆. alloc1 ! (λ l₇. alloc1 ! (λ l₈. alloc1 ! (λ l₉. alloc1 ! (λ l₁₀. alloc1 ! (λ l₁₁. alloc1 ! (λ l₁₂. alloc1 ! (λ l₁₃. alloc1 ! (λ l₁₄. alloc1 ! (λ l₁₅. alloc1 ! (λ l₁₆. alloc1 ! (λ l₁₇. alloc0 ! $ params1 ! $
-        pass1 ! (init ! 32 refl (tt, (tt, (record { fits = room .0 }, tt)))) $ pass1 ! (init ! 30 refl (typed wn W w w-ok .0)) $ pass1 ! (init ! 28 refl (tt, record { fits = halt-fits })) $ pass1 ! (init ! 26 refl (tt, (tt, (record { fits = room′ .0 }, tt)))) $ pass0 ! $ move ! (36 ∷ 37 ∷ 38 ∷ 39 ∷ []) $ body 𝓣 known-results-result-break known-results-is-same known-results-name-entry known-results-write-if known-results-text-part known-results-result-row l₀ l₁ l₂ l₃ l₄ l₅ l₆ l₇ l₈ l₉ l₁₀ l₁₁ l₁₂ l₁₃ l₁₄ l₁₅ l₁₆ l₁₇))))))))))))))))))
+        alloc1 ! (λ l₀. alloc1 ! (λ l₁. alloc1 ! (λ l₂. alloc1 ! (λ l₃. alloc1 ! (λ l₄. alloc1 ! (λ l₅. alloc1 ! (λ l₆. alloc1 ! (λ l₇. alloc1 ! (λ l₈. alloc1 ! (λ l₉. alloc1 ! (λ l₁₀. alloc1 ! (λ l₁₁. alloc1 ! (λ l₁₂. alloc1 ! (λ l₁₃. alloc1 ! (λ l₁₄. alloc1 ! (λ l₁₅. alloc1 ! (λ l₁₆. alloc0 ! $ params1 ! $
+        pass1 ! (init ! 30 refl (tt, (tt, (record { fits = room .0 }, tt)))) $ pass1 ! (init ! 28 refl (typed wn W w w-ok .0)) $ pass1 ! (init ! 26 refl (tt, record { fits = halt-fits })) $ pass1 ! (init ! 24 refl (tt, (tt, (record { fits = room′ .0 }, tt)))) $ pass0 ! $ move ! (34 ∷ 35 ∷ 36 ∷ 37 ∷ []) $ body 𝓣 known-results-result-break known-results-is-same known-results-name-entry known-results-write-if known-results-result-text-row l₀ l₁ l₂ l₃ l₄ l₅ l₆ l₇ l₈ l₉ l₁₀ l₁₁ l₁₂ l₁₃ l₁₄ l₁₅ l₁₆)))))))))))))))))
 
-result-rows-meets : {M : Type 1} (𝓤 : URA M) (H : Heap 𝓤) (A : Atoms 𝓤) → Given 𝓤 H A → (mem : Memory → SProp 𝓤) (run′ : Routine → Fun 𝓤) (𝓣 : Tables 𝓤 H) (known-results-result-break : Triple 𝓤 (𝓣 .C #sheet·results·result-break) (ResultsResultBreak′ 𝓤 H A mem run′)) (known-results-is-same : Triple 𝓤 (𝓣 .C #sheet·results·is-same) (ResultsIsSame′ 𝓤 H A mem run′)) (known-results-name-entry : Triple 𝓤 (𝓣 .C #sheet·results·name-entry) (ResultsNameEntry′ 𝓤 H A mem run′)) (known-results-write-if : Triple 𝓤 (𝓣 .C #sheet·results·write-if) (ResultsWriteIf′ 𝓤 H A mem run′)) (known-results-text-part : Triple 𝓤 (𝓣 .C #sheet·results·text-part) (ResultsTextPart′ 𝓤 H A mem run′)) (known-results-result-row : Triple 𝓤 (𝓣 .C #sheet·results·result-row) (ResultsResultRow′ 𝓤 H A mem run′))
+result-rows-meets : {M : Type 1} (𝓤 : URA M) (H : Heap 𝓤) (A : Atoms 𝓤) → Given 𝓤 H A → (mem : Memory → SProp 𝓤) (run′ : Routine → Fun 𝓤) (𝓣 : Tables 𝓤 H) (known-results-result-break : Triple 𝓤 (𝓣 .C #sheet·results·result-break) (ResultsResultBreak′ 𝓤 H A mem run′)) (known-results-is-same : Triple 𝓤 (𝓣 .C #sheet·results·is-same) (ResultsIsSame′ 𝓤 H A mem run′)) (known-results-name-entry : Triple 𝓤 (𝓣 .C #sheet·results·name-entry) (ResultsNameEntry′ 𝓤 H A mem run′)) (known-results-write-if : Triple 𝓤 (𝓣 .C #sheet·results·write-if) (ResultsWriteIf′ 𝓤 H A mem run′)) (known-results-result-text-row : Triple 𝓤 (𝓣 .C #sheet·results·result-text-row) (ResultsResultTextRow′ 𝓤 H A mem run′))
     → Meets 𝓤 H A result-rows.signature (WpFn 𝓤 H (𝓣 .C) (𝓣 .Λ) code.function) (result-rows.spec 𝓤 H A mem run′)
-result-rows-meets 𝓤 H A W mem run′ 𝓣 known-results-result-break known-results-is-same known-results-name-entry known-results-write-if known-results-text-part known-results-result-row =
+result-rows-meets 𝓤 H A W mem run′ 𝓣 known-results-result-break known-results-is-same known-results-name-entry known-results-write-if known-results-result-text-row =
     walk-meets 𝓤 H A result-rows.ended stayed W (goes-none-slice 𝓤 H A W 2 (0 ∷ []) tt (plain (λ _. u8)) yes, (goes-none 𝓤 H A W 2 (λ _. Wn) yes (λ κs x f. refl), (goes-none 𝓤 H A W 2 (λ _. u32) yes (λ κs x f. refl), (goes-slice 𝓤 H A W 2 1 tt (plain (λ _. Ev)), tt)))) (result-rows.clauses 𝓤 H A mem run′) (WpFn 𝓤 H (𝓣 .C) (𝓣 .Λ) code.function) (WpFn-mono 𝓤 H (W .laws) 𝓣 code.function)
     (walked 𝓤 H A result-rows.ended stayed (result-rows.clauses 𝓤 H A mem run′) (WpFn 𝓤 H (𝓣 .C) (𝓣 .Λ) code.function) (λ κs. (slice-vals, (vals wn, (uint-vals w32, (slice-vals, tt))))) (λ κs. (shr-slice-tells (named 0) (κs .0) u8, (wn .tells, (uint-tells w32, (mut-slice-tells (named 1) (κs .1 .0) Ev, tt)))))
-    (λ κs qs bounds a g are. needs 𝓤 _ _ (λ asked. walk 𝓤 H A W mem run′ (κs .0) (κs .1 .0) (qs .0) (qs .1 .0) (a .0 .ptr .0) (a .0 .ptr .1) (a .0 .name) (a .0 .now) (are .0 .0 .1) (a .1 .0) (are .1 .0) (a .1 .1 .0) (are .1 .1 .0 .1) (a .1 .1 .1 .0 .ptr .0) (a .1 .1 .1 .0 .ptr .1) (a .1 .1 .1 .0 .name) (a .1 .1 .1 .0 .now) (are .1 .1 .1 .0 .0 .1) asked 𝓣 known-results-result-break known-results-is-same known-results-name-entry known-results-write-if known-results-text-part known-results-result-row)))
+    (λ κs qs bounds a g are. needs 𝓤 _ _ (λ asked. walk 𝓤 H A W mem run′ (κs .0) (κs .1 .0) (qs .0) (qs .1 .0) (a .0 .ptr .0) (a .0 .ptr .1) (a .0 .name) (a .0 .now) (are .0 .0 .1) (a .1 .0) (are .1 .0) (a .1 .1 .0) (are .1 .1 .0 .1) (a .1 .1 .1 .0 .ptr .0) (a .1 .1 .1 .0 .ptr .1) (a .1 .1 .1 .0 .name) (a .1 .1 .1 .0 .now) (are .1 .1 .1 .0 .0 .1) asked 𝓣 known-results-result-break known-results-is-same known-results-name-entry known-results-write-if known-results-result-text-row)))
 
 pub result-rows-spec : {M : Type 1} → stated.statement M
 unfolding code.routine tablesOf
@@ -246,5 +226,4 @@ result-rows-spec 𝓤 H 𝓜 𝓖 𝓡 =
     (cited 𝓤 H (ResultsIsSame′ 𝓤 H (𝓖 .A) (𝓜 .mem) (𝓡 .run)) 𝓜 𝓡 code.env #sheet·results·is-same results-is-same-def.routine code.calls-sheet·results·is-same (results-is-same-thm.met 𝓤 H 𝓜 𝓖 𝓡))
     (cited 𝓤 H (ResultsNameEntry′ 𝓤 H (𝓖 .A) (𝓜 .mem) (𝓡 .run)) 𝓜 𝓡 code.env #sheet·results·name-entry results-name-entry-def.routine code.calls-sheet·results·name-entry (results-name-entry-thm.met 𝓤 H 𝓜 𝓖 𝓡))
     (cited 𝓤 H (ResultsWriteIf′ 𝓤 H (𝓖 .A) (𝓜 .mem) (𝓡 .run)) 𝓜 𝓡 code.env #sheet·results·write-if results-write-if-def.routine code.calls-sheet·results·write-if (results-write-if-thm.met 𝓤 H 𝓜 𝓖 𝓡))
-    (cited 𝓤 H (ResultsTextPart′ 𝓤 H (𝓖 .A) (𝓜 .mem) (𝓡 .run)) 𝓜 𝓡 code.env #sheet·results·text-part results-text-part-def.routine code.calls-sheet·results·text-part (results-text-part-thm.met 𝓤 H 𝓜 𝓖 𝓡))
-    (cited 𝓤 H (ResultsResultRow′ 𝓤 H (𝓖 .A) (𝓜 .mem) (𝓡 .run)) 𝓜 𝓡 code.env #sheet·results·result-row results-result-row-def.routine code.calls-sheet·results·result-row (results-result-row-thm.met 𝓤 H 𝓜 𝓖 𝓡)))
+    (cited 𝓤 H (ResultsResultTextRow′ 𝓤 H (𝓖 .A) (𝓜 .mem) (𝓡 .run)) 𝓜 𝓡 code.env #sheet·results·result-text-row results-result-text-row-def.routine code.calls-sheet·results·result-text-row (results-result-text-row-thm.met 𝓤 H 𝓜 𝓖 𝓡)))
