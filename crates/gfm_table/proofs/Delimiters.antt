@@ -1,22 +1,20 @@
 -- The first stretch of a delimiter row: where it ends, and when it is a value.
 -- Assumes nothing.
-use Prim.Native.Nat.{ℕ, _+_, _<_}
+use Prim.Native.Nat.{ℕ, _+_}
 use mathlib.Core.Path.{_≡_, refl, ap, sym, _∙_}
-use mathlib.Core.Bool.{Bool, true, false, cond, not, _&&_, _||_, and-true, and-false, or-false, true≢false, false≢true}
+use mathlib.Core.Bool.{Bool, true, false, cond, not, _&&_, and-true, and-false, or-false, true≢false, false≢true}
 use mathlib.Core.List.{List, [], _∷_, _++_}
 use native.Mathlib.Omega.{arith}
-use borrow.Author.Tests.{eqb-true, eqb-false, eq-eqb, ne-eqb}
+use borrow.Author.Tests.{eqb-true, eqb-false, ne-eqb}
 use lib.Dec.{eqb}
-use lib.ListN.{length, drop, getD}
+use lib.ListN.{drop, getD}
 use Rattle.tokenizer.specs.declared.event.Point.{Point}
 use Rattle.tokenizer.specs.Bytes.{kindOf}
-use Rattle.tokenizer.specs.Points.{past}
 use Rattle.tokenizer.specs.Lines.{isEmpty, isSpace, indent, unindented, blank}
-use Rattle.gfm_table.specs.Heads.{untailed, hyphens, isValue}
+use Rattle.gfm_table.specs.Heads.{untailed, hyphens}
 use Rattle.tokenizer.specs.Lines.{lineBody}
 use Rattle.tokenizer.specs.Moves.{aheadOf, restOf, overAt, runOf, afterRun, Inside}
-use Rattle.gfm_table.specs.Delimiters.{stretch, closes, written, valueIf, blankAt, closedAt, hyphensAt, cellAt}
-use Rattle.gfm_table.specs.declared.delimiter.Cell.{Cell}
+use Rattle.gfm_table.specs.Delimiters.{stretch, closes, written, blankAt, closedAt, hyphensAt, cellAt}
 use Rattle.gfm_table.specs.declared.delimiter.Cell.the-variants.{Empty, Value, Bad}
 use Rattle.tokenizer.proofs.Ahead.{Front, goes, ends, runEnd, end-none, end-over, rest-end, inside-end, end-end, line-case}
 use Rattle.tokenizer.proofs.Runs.{space-split, run-split}
@@ -71,7 +69,7 @@ module _ (kind : ℕ → ℕ) where
       go false e h = refl
 
   -- no hyphen in front
-  hyphens-off : (b : ℕ) (u : List ℕ) → eqb (kind b) 5 ≡ false → hyphens kind (b ∷ u) ≡ false
+  pub hyphens-off : (b : ℕ) (u : List ℕ) → eqb (kind b) 5 ≡ false → hyphens kind (b ∷ u) ≡ false
   unfolding hyphens
   hyphens-off b [] e = e
   hyphens-off b (c ∷ u) e = rw e

@@ -14,5 +14,6 @@ pub mod Placing
 pub mod Writing
 pub mod HeadRows
 pub mod Marks
+pub mod ValuePlaces
 pub mod Known
 pub mod Types

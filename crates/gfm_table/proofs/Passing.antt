@@ -13,7 +13,7 @@ use Rattle.tokenizer.specs.Lines.{lineBody, indent, unindented}
 use Rattle.tokenizer.specs.Moves.{aheadOf, Inside}
 use Rattle.tokenizer.proofs.Ahead.{Front, ends, rest-past, run-stops}
 use Rattle.tokenizer.proofs.Runs.{indent-run, space-on, space-split}
-use Rattle.gfm_table.specs.Rows.{Piece, rowPieces}
+use Rattle.gfm_table.specs.Rows.{rowPieces}
 use Rattle.gfm_table.specs.Machine.{dataRun, dataRest, escaped, unescaped}
 use Rattle.gfm_table.proofs.Runs.{led-some, single, space-pieces, data-some, data-split, data-pieces, slash-on, plain-on, escape-on, escape-split, escape-run}
 use Rattle.gfm_table.proofs.Plans.{row-few, rest-few}
@@ -27,7 +27,7 @@ abbrev pub pointOf : ℕ → Point
 pointOf i = record { line = 0; column = 0; index = i; vs = 0 }
 
 -- after a stretch of a line
-line-past : (s : List ℕ) (i : ℕ) (a t : List ℕ) → lineFrom s i ≡ a ++ t → lineFrom s (i + length a) ≡ t
+pub line-past : (s : List ℕ) (i : ℕ) (a t : List ℕ) → lineFrom s i ≡ a ++ t → lineFrom s (i + length a) ≡ t
 line-past s i a t e = rest-past s (pointOf i) a t e
 
 pub point-inside : (s : List ℕ) (i : ℕ) → length s ≤ 65536 → i ≤ length s → Inside s (pointOf i)

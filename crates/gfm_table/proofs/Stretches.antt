@@ -4,23 +4,23 @@ use Prim.Native.Nat.{ℕ, suc, _+_, _≤_, _<_}
 use mathlib.Core.Path.{_≡_, refl, ap, sym, _∙_}
 use mathlib.Core.Bool.{Bool, true, false, cond, _&&_, _||_, false≢true}
 use mathlib.Core.List.{List, [], _∷_, _++_, append-nil}
-use native.Mathlib.Nat.{add-zero, add-assoc}
+use native.Mathlib.Nat.{add-zero}
 use native.Mathlib.Omega.{arith}
 use borrow.Author.Tests.{eqb-true, eqb-false, ne-eqb, lt-ltb, le-ltb}
 use lib.Dec.{eqb, ltb}
-use lib.ListN.{length, drop, getD}
+use lib.ListN.{length, drop}
 use Rattle.tokenizer.specs.declared.event.Point.{Point}
 use Rattle.gfm_table.specs.declared.delimiter.Cell.the-variants.{Empty, Value, Bad}
 use Rattle.gfm_table.specs.declared.delimiter.Values.the-variants.{Count, Bad as NoValues}
 use Rattle.tokenizer.specs.Bytes.{kindOf, isEnd}
 use Rattle.tokenizer.specs.Points.{past}
 use Rattle.tokenizer.specs.Lines.{isEmpty, indent, unindented}
-use Rattle.gfm_table.specs.Heads.{untailed, hyphens, isValue, onStretch, stretches, trimmed, unled, untrailed, allValues, values, marked, permitted, isDelimiterRow}
+use Rattle.gfm_table.specs.Heads.{isValue, onStretch, stretches, trimmed, unled, untrailed, allValues, values, marked, permitted}
 use Rattle.tokenizer.specs.Lines.{lineBody}
 use Rattle.tokenizer.specs.Moves.{aheadOf, restOf, overAt, Inside}
 use Rattle.gfm_table.specs.Machine.{pipeFirst}
-use Rattle.gfm_table.specs.Delimiters.{stretch, written, cellAt, countIf, restAt, valuesAt, delimiterAt}
-use Rattle.tokenizer.proofs.Ahead.{Front, goes, ends, runEnd, end-over, rest-end, inside-end, end-end}
+use Rattle.gfm_table.specs.Delimiters.{stretch, written, cellAt, restAt, valuesAt, delimiterAt}
+use Rattle.tokenizer.proofs.Ahead.{Front, ends, runEnd, end-over, rest-end, inside-end, end-end}
 use Rattle.gfm_table.proofs.Stops.{led-ahead}
 use Rattle.tokenizer.proofs.Runs.{space-split}
 use Rattle.gfm_table.proofs.Delimiters.{written-on, written-none}
@@ -221,25 +221,40 @@ beyond-space (b ∷ u) = go (eqb (kindOf b) 1) refl (beyond-space u)
     go true e h = rw (eqb-true (kindOf b) 1 e) h
     go false e h = refl
 
+beyond-led : (u : List ℕ) (b : ℕ) (w : List ℕ) → unindented kindOf u ≡ b ∷ w → kindOf b ≡ 3 → beyond u ≡ b ∷ w
+unfolding beyond
+beyond-led u b w e k = beyond-space u ∙ ap beyond e ∙ rw k
+
 -- nothing before a pipe: the first cell is dropped
-values-led : (u : List ℕ) (b : ℕ) (w : List ℕ) → unindented kindOf u ≡ b ∷ w → kindOf b ≡ 3 → values kindOf u ≡ untrailed (cells w)
-unfolding stretch beyond
-values-led u b w e k =
-    let l : beyond u ≡ b ∷ w = beyond-space u ∙ ap beyond e ∙ rw k in
-    let n : written u ≡ [] = written-none kindOf u (rw (e, k)) in
-    rw (cells-more u b w l, n, cells-split w)
+pub values-led : (u : List ℕ) (b : ℕ) (w : List ℕ) → unindented kindOf u ≡ b ∷ w → kindOf b ≡ 3 → values kindOf u ≡ untrailed (cells w)
+unfolding stretch
+values-led u b w e k = rw (cells-more u b w (beyond-led u b w e k), written-none kindOf u (rw (e, k)), cells-split w)
 
 unled-solid : (b : ℕ) (y : List ℕ) (cs : List (List ℕ)) → unled ((b ∷ y) ∷ cs) ≡ (b ∷ y) ∷ cs
 unled-solid b y [] = refl
 unled-solid b y (c ∷ cs) = refl
 
-values-plain : (u : List ℕ) → pipeFirst (unindented kindOf u) ≡ false → values kindOf u ≡ untrailed (cells u)
+pub values-plain : (u : List ℕ) → pipeFirst (unindented kindOf u) ≡ false → values kindOf u ≡ untrailed (cells u)
 unfolding beyond
 values-plain u h = ap untrailed (go (unindented kindOf u) refl h)
   where
     go : (v : List ℕ) → unindented kindOf u ≡ v → pipeFirst v ≡ false → unled (cells u) ≡ cells u
     go [] e h = rw (cells-last u (beyond-space u ∙ ap beyond e))
     go (c ∷ x) e h = rw (cells-split u, written-on kindOf u c x e (eqb-false (kindOf c) 3 h), unled-solid)
+
+-- nothing but whitespace
+pub cells-blank : (u : List ℕ) → unindented kindOf u ≡ [] → cells u ≡ [] ∷ []
+unfolding beyond stretch
+cells-blank u e = cells-last u (beyond-space u ∙ ap beyond e) ∙ ap (λ (c : List ℕ). c ∷ []) (written-none kindOf u (rw e))
+
+-- something in front that is no value
+pub cells-bad : (u : List ℕ) (b : ℕ) (w : List ℕ) → unindented kindOf u ≡ b ∷ w → isValue kindOf (written u) ≡ false → allValues kindOf (untrailed (cells u)) ≡ false
+unfolding allValues
+cells-bad u b w e v = go (eqb (kindOf b) 3) refl
+  where
+    go : (t : Bool) → eqb (kindOf b) 3 ≡ t → allValues kindOf (untrailed (cells u)) ≡ false
+    go true k = rw (cells-more u b w (beyond-led u b w e (eqb-true (kindOf b) 3 k)), untrailed-more (written u) w, v)
+    go false k = rw (cells-split u) (all-bad (written u) (trimmed kindOf (others (beyond u))) (ap isEmpty (written-on kindOf u b w e (eqb-false (kindOf b) 3 k))) v)
 
 module _ (s : List ℕ) (p : Point) where
   abbrev solidAt : Point
@@ -306,33 +321,3 @@ module _ (on : Bool) (p : Point) (u : List ℕ) where
 
       pub row-none : n ≤ 0 → NoValues ≡ delimiterAt on p u
       row-none z = let v = row-values in rw (a, b, le-ltb 0 (length (values kindOf u)) (omega (arith, v .0)))
-
--- ## The first byte
-
-hyphens-other : (b : ℕ) (w : List ℕ) → eqb (kindOf b) 5 ≡ false → hyphens kindOf (b ∷ w) ≡ false
-unfolding hyphens
-hyphens-other b [] e = e
-hyphens-other b (c ∷ w) e = rw e
-
--- the first solid byte is neither a divider nor a hyphen nor a colon
-first-bad : (p : Point) (u : List ℕ) (b : ℕ) (w : List ℕ) → unindented kindOf u ≡ b ∷ w → (kindOf b ≡ 3 → ⊥) → (kindOf b ≡ 5 → ⊥) → (kindOf b ≡ 6 → ⊥) → NoValues ≡ valuesAt p u
-first-bad p u b w e x y z =
-    let h = written-on kindOf u b w e x in
-    let j : isValue kindOf (written u) ≡ false = ap (isValue kindOf) h ∙ rw (ne-eqb (kindOf b) 6 z) (hyphens-other b (untailed kindOf (stretch kindOf w)) (ne-eqb (kindOf b) 5 y)) in
-    rw (values-plain u (ap pipeFirst e ∙ ne-eqb (kindOf b) 3 x), cells-split u, all-bad (written u) (trimmed kindOf (others (beyond u))) (ap isEmpty h) j)
-
-pub row-other : (s : List ℕ) (on : Bool) (p : Point) (k : ℕ) → k ≡ aheadOf kindOf (drop (p .index) s) → (k ≡ 1 → ⊥) → (k ≡ 3 → ⊥) → (k ≡ 5 → ⊥) → (k ≡ 6 → ⊥) → NoValues ≡ delimiterAt on p (restOf s p)
-unfolding unindented
-row-other s on p k e x y z t = go (eqb k 2) refl
-  where
-    bad : Front s (p .index) k → (a b : Bool) → permitted kindOf on (restOf s p) ≡ a → marked kindOf (restOf s p) ≡ b → NoValues ≡ delimiterAt on p (restOf s p)
-    bad f false b c d = row-unpermitted on p (restOf s p) c
-    bad f true false c d = row-unmarked on p (restOf s p) d
-    bad f true true c d =
-        let i = f .kind in
-        let u : unindented kindOf (restOf s p) ≡ getD s (p .index) 0 ∷ lineBody (drop (p .index + 1) s) = ap (unindented kindOf) (f .line) ∙ rw (ne-eqb (kindOf (getD s (p .index) 0)) 1 (λ q. x (sym i ∙ q))) in
-        row-bad on p (restOf s p) c d (first-bad p (restOf s p) (getD s (p .index) 0) (lineBody (drop (p .index + 1) s)) u (λ q. y (sym i ∙ q)) (λ q. z (sym i ∙ q)) (λ q. t (sym i ∙ q)))
-
-    go : (r : Bool) → eqb k 2 ≡ r → NoValues ≡ delimiterAt on p (restOf s p)
-    go true i = row-unmarked on p (restOf s p) (sym (unmarked (drop (p .index) s) (sym e ∙ eqb-true k 2 i)))
-    go false i = bad (goes s (p .index) k e (eqb-false k 2 i)) (permitted kindOf on (restOf s p)) (marked kindOf (restOf s p)) refl refl

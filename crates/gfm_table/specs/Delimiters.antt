@@ -1,7 +1,7 @@
 -- What the promises about delimiter rows cite: the first stretch of a line, and what it is.
 use Prim.Native.Nat.{ℕ, _+_}
 use mathlib.Core.List.{List, [], _∷_}
-use mathlib.Core.Bool.{Bool, true, false, cond}
+use mathlib.Core.Bool.{Bool, true, cond, _&&_}
 use lib.Dec.{eqb}
 use lib.ListN.{length}
 use Rattle.tokenizer.specs.Events
@@ -15,7 +15,7 @@ use Rattle.gfm_table.specs.declared.delimiter.Values.the-variants.{Count
 use Rattle.tokenizer.specs.Bytes.{kindOf}
 use Rattle.tokenizer.specs.Points.{past}
 use Rattle.tokenizer.specs.Lines.{isEmpty, unindented, blank}
-use Rattle.gfm_table.specs.Heads.{untailed, hyphens, isValue, stretches, trimmed, untrailed, allValues, values, isDelimiterRow}
+use Rattle.gfm_table.specs.Heads.{untailed, hyphens, isValue, stretches, trimmed, untrailed, allValues, values, marked, isDelimiterRow}
 
 module _ (kind : ℕ → ℕ) where
   -- the bytes up to the first pipe
@@ -27,6 +27,11 @@ module _ (kind : ℕ → ℕ) where
   abbrev pub closes : List ℕ → Bool
   closes [] = true
   closes (b ∷ u) = cond (eqb (kind b) 6) (blank kind (stretch u)) (blank kind (stretch (b ∷ u)))
+
+  -- a colon in front
+  abbrev pub colon : List ℕ → List ℕ
+  colon [] = []
+  colon (b ∷ u) = cond (eqb (kind b) 6) (b ∷ []) []
 
 -- the stretch as it is written, whitespace off at both ends
 abbrev pub written : List ℕ → List ℕ
@@ -67,6 +72,24 @@ valuesAt p u = countIf (values kindOf u) 0 (past p u)
 -- the number of values of a delimiter row and its end, or that the line is none
 abbrev pub delimiterAt : Bool → Point → List ℕ → Values
 delimiterAt on p u = cond (isDelimiterRow kindOf on u) (Count (length (values kindOf u)) (past p u)) NoValues
+
+-- ## Values, counted by the places of their bytes
+
+-- the end of the stretch at the place i if it is a value, and 0 if it is none
+abbrev pub valueEnd : ℕ → List ℕ → ℕ
+valueEnd i u = cond (isValue kindOf (written u)) (i + length (stretch kindOf u)) 0
+
+-- n values and those of the stretches that are left, or 0 where one is none
+abbrev pub restCount : ℕ → List ℕ → ℕ
+restCount n u = let cs = untrailed (trimmed kindOf (stretches kindOf u)) in cond (allValues kindOf cs) (n + length cs) 0
+
+-- the values of a line, the outer dividers taken off, or 0 where a stretch is none
+abbrev pub rowCount : List ℕ → ℕ
+rowCount u = cond (allValues kindOf (values kindOf u)) (length (values kindOf u)) 0
+
+-- the same, or 0 where the line has no colon and no divider
+abbrev pub valueCount : List ℕ → ℕ
+valueCount u = cond (marked kindOf u && allValues kindOf (values kindOf u)) (length (values kindOf u)) 0
 
 -- ## Pieces
 

@@ -1,4 +1,5 @@
 // The states of a delimiter row.
+use crate::values::marked_from;
 use tokenizer::event::Point;
 use tokenizer::moves::ahead;
 use tokenizer::moves::kind_at;
@@ -8,11 +9,12 @@ use tokenizer::moves::space_end;
 use tokenizer::partial_space_or_tab::space_ends;
 ghost use mathlib.Core.Path.{_≡_};
 ghost use Prim.Native.Nat.{_≤_};
+ghost use lib.ListN.{length, drop};
 ghost use Rattle.tokenizer.specs.Bytes.{kindOf};
 ghost use Rattle.tokenizer.specs.Points.{past};
-ghost use Rattle.tokenizer.specs.Lines.{isEmpty};
+ghost use Rattle.tokenizer.specs.Lines.{isEmpty, lineBody};
 ghost use Rattle.tokenizer.specs.Moves.{restOf, Inside};
-ghost use Rattle.gfm_table.specs.Heads.{marked, permitted};
+ghost use Rattle.gfm_table.specs.Heads.{permitted};
 ghost use Rattle.gfm_table.specs.Delimiters.{stretch, blankAt, closedAt, hyphensAt, cellAt, restAt, valuesAt, delimiterAt, fillerRun};
 
 // What stands between two dividers: nothing but whitespace, a value, or something else. The point is the end of the stretch.
@@ -131,40 +133,31 @@ pub fn head_delimiter_before(s: &[u8], p: Point) -> Values
     head_delimiter_cells(s, p, 0)
 }
 
-// Whether a colon or a divider occurs in the rest of the line.
-pub fn marked_from(s: &[u8], p: Point) -> bool
-    ensures { λ r. ⌜ r ≡ marked kindOf (restOf (now (s .entry)) p) ⌝ }
-{
-    let mut i = p.index as usize;
-    loop {
-        match kind_at(s, i) {
-            2 => {
-                return false;
-            }
-            3 => {
-                return true;
-            }
-            6 => {
-                return true;
-            }
-            _ => {
-                i += 1;
-            }
-        }
-    }
-}
-
-// Whether a line's indent is permitted. Most lines have none.
-pub fn permits(s: &[u8], p: Point, on: bool) -> bool
-    requires { ⌜ Inside (now s) p × (p .column ≡ 1) ⌝ }
-    ensures { λ r. ⌜ r ≡ permitted kindOf on (restOf (now (s .entry)) p) ⌝ }
+// Whether the indent of the line at a place is permitted. Most lines have none.
+pub fn permits_at(s: &[u8], at: usize, on: bool) -> bool
+    requires { ⌜ (length (now s) ≤ 65536) × (at ≤ length (now s)) ⌝ }
+    ensures { λ r. ⌜ r ≡ permitted kindOf on (lineBody (drop at (now (s .entry)))) ⌝ }
 {
     if on {
-        if ahead(s, p) == 1 {
+        if kind_at(s, at) == 1 {
+            let p = Point {
+                line: 1,
+                column: 1,
+                index: at as u32,
+                vs: 0,
+            };
             return space_ends(s, p, Point::INDENT_CAP);
         }
     }
     true
+}
+
+// The same at a point.
+pub fn permits(s: &[u8], p: Point, on: bool) -> bool
+    requires { ⌜ Inside (now s) p × (p .column ≡ 1) ⌝ }
+    ensures { λ r. ⌜ r ≡ permitted kindOf on (restOf (now (s .entry)) p) ⌝ }
+{
+    permits_at(s, p.index as usize, on)
 }
 
 // The delimiter row: the number of its values and its end, or refused.
@@ -173,7 +166,7 @@ pub fn head_delimiter_row(s: &[u8], p: Point, on: bool) -> Values
     ensures { λ r. ⌜ r ≡ delimiterAt on p (restOf (now (s .entry)) p) ⌝ }
 {
     if permits(s, p, on) {
-        if marked_from(s, p) {
+        if marked_from(s, p.index as usize) {
             match head_delimiter_before(s, p) {
                 Values::Count(n, e) => {
                     if 0 < n {

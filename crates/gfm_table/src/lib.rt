@@ -18,6 +18,7 @@ pub mod pieces;
 pub mod rows;
 pub mod states;
 pub mod stream;
+pub mod values;
 
 // A head at an offset: two lines of the sheet.
 pub fn head(

@@ -1,6 +1,5 @@
 -- `head_delimiter_row` meets its contract: each test is a part of what makes a delimiter row.
 -- Assumes nothing.
-use Prim.Native.Nat.{ℕ}
 use mathlib.Core.Bool.{true}
 use mathlib.Core.Path.{_≡_, sym, _∙_}
 use borrow.Author.Needs.{needs}
@@ -15,6 +14,9 @@ use Rattle.gfm_table.proofs.delimiter.head_delimiter_row.Tie as tie
 permits-requires : tie.Need-permits-requires
 permits-requires c κs = search needs
 
+cast-marked-from : tie.Need-cast-marked-from
+cast-marked-from c = search needs
+
 marked-from-requires : tie.Need-marked-from-requires
 marked-from-requires c κs = search needs
 
@@ -25,22 +27,22 @@ enum-known-n : tie.Need-enum-known-n
 enum-known-n c = search needs
 
 -- both tests passed
-may : (c : tie.After-head-delimiter-before) → let a = c .before .before .before .before .before .before .args in permitted kindOf (a .on) (restOf (now (a .s)) (a .p)) ≡ true
-may c = sym (c .before .before .before .before .permits .ensures) ∙ c .before .before .before .if1 .taken
+may : (c : tie.After-head-delimiter-before) → let a = c .before .before .before .before .before .before .before .args in permitted kindOf (a .on) (restOf (now (a .s)) (a .p)) ≡ true
+may c = sym (c .before .before .before .before .before .permits .ensures) ∙ c .before .before .before .before .if1 .taken
 
-has : (c : tie.After-head-delimiter-before) → let a = c .before .before .before .before .before .before .args in marked kindOf (restOf (now (a .s)) (a .p)) ≡ true
+has : (c : tie.After-head-delimiter-before) → let a = c .before .before .before .before .before .before .before .args in marked kindOf (restOf (now (a .s)) (a .p)) ≡ true
 has c = sym (c .before .before .marked-from .ensures) ∙ c .before .if2 .taken
 
 returns : tie.Need-returns
 returns c =
     let d = c .before .before .before .before in
-    let a = d .before .before .before .before .before .before .args in
+    let a = d .before .before .before .before .before .before .before .args in
     row-count (a .on) (a .p) (restOf (now (a .s)) (a .p)) (may d) (has d) _ _ (sym (c .before .before .n .given .1) ∙ d .head-delimiter-before .ensures) (c .if3 .taken)
 
 returns-2 : tie.Need-returns-2
 returns-2 c =
     let d = c .before .before .before .before in
-    let a = d .before .before .before .before .before .before .args in
+    let a = d .before .before .before .before .before .before .before .args in
     row-none (a .on) (a .p) (restOf (now (a .s)) (a .p)) (may d) (has d) _ _ (sym (c .before .before .n .given .1) ∙ d .head-delimiter-before .ensures) (c .if3 .left)
 
 enum-told : tie.Need-enum-told
@@ -49,12 +51,12 @@ enum-told c = search needs
 returns-3 : tie.Need-returns-3
 returns-3 c =
     let d = c .before .before in
-    let a = d .before .before .before .before .before .before .args in
+    let a = d .before .before .before .before .before .before .before .args in
     row-bad (a .on) (a .p) (restOf (now (a .s)) (a .p)) (may d) (has d) (sym (c .enum-told .given .1) ∙ d .head-delimiter-before .ensures)
 
 returns-4 : tie.Need-returns-4
 returns-4 c =
-    let a = c .before .before .before .before .before .args in
+    let a = c .before .before .before .before .before .before .args in
     row-unmarked (a .on) (a .p) (restOf (now (a .s)) (a .p)) (sym (c .before .marked-from .ensures) ∙ c .if2 .left)
 
 returns-5 : tie.Need-returns-5
@@ -67,6 +69,7 @@ head-delimiter-row-spec =
     tie.close
     (tie.spec
     permits-requires
+    cast-marked-from
     marked-from-requires
     head-delimiter-before-requires
     enum-known-n

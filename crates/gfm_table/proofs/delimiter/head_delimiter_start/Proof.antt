@@ -4,7 +4,8 @@ use mathlib.Core.Logic.{inl, inr}
 use native.Mathlib.Omega.{arith}
 use borrow.Author.Needs.{needs}
 use denote.Ref.{now}
-use Rattle.gfm_table.proofs.Stretches.{row-other}
+use Rattle.tokenizer.specs.Moves.{restOf}
+use Rattle.gfm_table.proofs.ValuePlaces.{no-row, count-other}
 use Rattle.gfm_table.proofs.delimiter.head_delimiter_start.Statement.{statement}
 use Rattle.gfm_table.proofs.delimiter.head_delimiter_start.Tie as tie
 
@@ -19,13 +20,13 @@ returns : tie.Need-returns
 returns c =
     let a = c .before .before .before .before .args in
     let r = c .before .match .rest .1 in
-    row-other (now (a .s)) (a .on) (a .p) _ (c .before .before .ahead .ensures) (λ z. r (inl z)) (λ z. r (inr z)) (λ z. omega (arith, z, c .if1 .taken)) (λ z. omega (arith, z, c .if1 .taken))
+    no-row (a .on) (a .p) (restOf (now (a .s)) (a .p)) (count-other (now (a .s)) (a .p .index) _ (c .before .before .ahead .ensures) (λ z. r (inl z)) (λ z. r (inr z)) (λ z. omega (arith, z, c .if1 .taken)) (λ z. omega (arith, z, c .if1 .taken)))
 
 returns-2 : tie.Need-returns-2
 returns-2 c =
     let a = c .before .before .before .before .before .args in
     let r = c .before .before .match .rest .1 in
-    row-other (now (a .s)) (a .on) (a .p) _ (c .before .before .before .ahead .ensures) (λ z. r (inl z)) (λ z. r (inr z)) (λ z. omega (arith, z, c .if2 .left)) (λ z. omega (arith, z, c .if2 .left))
+    no-row (a .on) (a .p) (restOf (now (a .s)) (a .p)) (count-other (now (a .s)) (a .p .index) _ (c .before .before .before .ahead .ensures) (λ z. r (inl z)) (λ z. r (inr z)) (λ z. omega (arith, z, c .if2 .left)) (λ z. omega (arith, z, c .if2 .left)))
 
 returns-3 : tie.Need-returns-3
 returns-3 c = search needs

@@ -1,7 +1,7 @@
--- `marked_from` meets its contract. The measure is the bytes left.
+-- `values::marked_from` meets its contract. The measure is the bytes left.
 -- Assumes nothing.
-use Prim.Native.Nat.{_-_, _+_}
-use mathlib.Core.Path.{_≡_, refl, ap, sym, _∙_}
+use Prim.Native.Nat.{_-_}
+use mathlib.Core.Path.{_≡_, refl, sym, _∙_}
 use native.Mathlib.Omega.{arith}
 use borrow.Author.Needs.{needs}
 use borrow.Author.Tests.{ne-eqb}
@@ -12,17 +12,14 @@ use Rattle.gfm_table.specs.Heads.{marked}
 use Rattle.tokenizer.specs.Lines.{lineBody}
 use Rattle.tokenizer.proofs.Ahead.{Front, goes}
 use Rattle.gfm_table.proofs.Stretches.{unmarked, marked-at}
-use Rattle.gfm_table.proofs.delimiter.marked_from.Statement.{statement}
-use Rattle.gfm_table.proofs.delimiter.marked_from.Tie as tie
+use Rattle.gfm_table.proofs.values.marked_from.Statement.{statement}
+use Rattle.gfm_table.proofs.values.marked_from.Tie as tie
 
 abbrev Inv-loop : tie.InvT-loop
-Inv-loop s i₀ i = marked kindOf (lineBody (drop i s)) ≡ marked kindOf (lineBody (drop i₀ s))
+Inv-loop s at i₀ i = marked kindOf (lineBody (drop i s)) ≡ marked kindOf (lineBody (drop i₀ s))
 
 abbrev μ-loop : tie.MeasureT-loop
-μ-loop s i₀ i = length s - i
-
-cast-i : tie.Need-cast-i Inv-loop μ-loop
-cast-i c = search needs
+μ-loop s at i₀ i = length s - i
 
 loop-holds : tie.Need-loop-holds Inv-loop μ-loop
 loop-holds c = refl
@@ -33,7 +30,7 @@ kind-at-requires c κs = search needs
 returns : tie.Need-returns Inv-loop μ-loop
 returns c =
     let l = c .before .before .loop in
-    unmarked (drop (l .i) (now (c .before .before .before .before .before .args .s))) (sym (c .before .kind-at .ensures) ∙ c .match .keys1) ∙ l .inv
+    unmarked (drop (l .i) (now (c .before .before .before .before .args .s))) (sym (c .before .kind-at .ensures) ∙ c .match .keys1) ∙ l .inv
 
 returns-2 : tie.Need-returns-2 Inv-loop μ-loop
 returns-2 c =
@@ -45,7 +42,7 @@ returns-3 c =
     let l = c .before .before .loop in
     sym (marked-at _ (l .i) 6 (goes _ _ 6 (sym (c .match .keys3) ∙ c .before .kind-at .ensures) (λ z. omega arith))) ∙ l .inv
 
-front : (c : tie.At-match-rest Inv-loop μ-loop) → Front (now (c .before .before .before .before .before .args .s)) (c .before .before .loop .i) (c .before .kind-at .result)
+front : (c : tie.At-match-rest Inv-loop μ-loop) → Front (now (c .before .before .before .before .args .s)) (c .before .before .loop .i) (c .before .kind-at .result)
 front c = goes _ _ _ (c .before .kind-at .ensures) (c .match .rest .0 .0 .1)
 
 add-i : tie.Need-add-i Inv-loop μ-loop
@@ -67,7 +64,6 @@ marked-from-spec =
     (tie.spec
     Inv-loop
     μ-loop
-    cast-i
     loop-holds
     kind-at-requires
     returns
