@@ -1,34 +1,29 @@
 -- The tables from a line on, one line at a time.
 -- Assumes nothing.
-use Prim.Native.Nat.{ℕ, _≤_}
-use mathlib.Core.Path.{_≡_, refl, sym, _∙_}
-use mathlib.Core.Bool.{Bool, true, false, cond, _&&_, _||_, not, false≢true}
+use Prim.Native.Nat.{ℕ, _+_, _≤_, _<_}
+use mathlib.Core.Path.{_≡_, refl, ap, sym, _∙_}
+use mathlib.Core.Bool.{Bool, true, false, cond, _&&_, _||_, not, and-false, false≢true}
 use mathlib.Core.List.{List, [], _∷_}
 use native.Mathlib.Omega.{arith}
-use borrow.Author.Tests.{eq-eqb, ne-eqb, eqb-true, eqb-false}
-use lib.Dec.{eqb}
-use lib.ListN.{length}
+use borrow.Author.Tests.{eq-eqb, ne-eqb, eqb-true, ltb-true, lt-ltb}
+use lib.Dec.{eqb, ltb}
+use lib.ListN.{length, drop}
 use Rattle.tokenizer.specs.declared.event.Point.{Point}
-use Rattle.tokenizer.specs.declared.lines.Further.the-variants.{More, Last}
 use Rattle.tokenizer.specs.Bytes.{kindOf}
 use Rattle.tokenizer.specs.Points.{start}
-use Rattle.tokenizer.specs.Lines.{Line, unindented, blank}
+use Rattle.tokenizer.specs.Lines.{lineBody, endAt, unindented, blank}
 use Rattle.tokenizer.specs.Places.{Placed, linesFrom, linesPast}
-use Rattle.tokenizer.specs.Moves.{restOf, lineAt, after, furtherOf, Inside}
+use Rattle.tokenizer.specs.Moves.{restOf, lineAt, after, Inside}
 use Rattle.tokenizer.proofs.Places.{lines-from}
-use Rattle.tokenizer.proofs.Ends.{after-inside}
-use Rattle.gfm_table.specs.declared.heads.Opened.{Opened}
-use Rattle.gfm_table.specs.declared.heads.Answer.{Answer}
-use Rattle.gfm_table.specs.declared.heads.Answer.the-variants.{Refused, Accepted}
-use Rattle.gfm_table.specs.declared.delimiter.Values.the-variants.{Count, Bad as NoValues}
+use Rattle.tokenizer.proofs.Ends.{end-past, body-inside, after-inside}
 use Rattle.gfm_table.specs.Rows.{Piece, onPieces, oddAfter, rowPieces}
-use Rattle.gfm_table.specs.Heads.{solid, permitted, loneDivider, isDelimiterRow, headRefusal}
-use Rattle.gfm_table.specs.Delimiters.{delimiterAt}
-use Rattle.gfm_table.specs.Answers.{headAt}
-use Rattle.gfm_table.proofs.Answers.{is-refused, is-accepted, refused-end}
+use Rattle.gfm_table.specs.Heads.{solid, permitted, loneDivider, marked, values, allValues, isDelimiterRow, headCells, headRefusal}
+use Rattle.gfm_table.specs.Delimiters.{valueCount}
+use Rattle.gfm_table.specs.Places.{pointIn}
+use Rattle.gfm_table.proofs.ValuePlaces.{row-counted, count-values}
 use Rattle.sheet.proofs.Tests.{test}
 use Rattle.sheet.specs.Walk.{opens, found, heads, rows}
-use Rattle.sheet.specs.From.{AtLine, Opens, Tried, here}
+use Rattle.sheet.specs.From.{AtLine, columnsIf, columnsOf, Opens, here}
 
 -- a sheet starts with a line
 pub start-line : (s : List ℕ) → length s ≤ 65536 → AtLine s start
@@ -66,28 +61,14 @@ module _ (kind : ℕ → ℕ) where
         go true = refl
         go false = refl
 
-    pub heads-blank : (l : Placed) (ls : List Placed) → blank kind (l .line .body) ≡ true → heads kind on (l ∷ ls) ≡ heads kind on ls
+    heads-blank : (l : Placed) (ls : List Placed) → blank kind (l .line .body) ≡ true → heads kind on (l ∷ ls) ≡ heads kind on ls
     unfolding heads
     heads-blank l [] e = refl
     heads-blank l (d ∷ ls) e = rw e
 
 -- ## The next line
 
-more-inv : (t : Bool) (e : ℕ) {q r : Point} → eqb e 0 ≡ t → More q ≡ cond t Last (More r) → (q ≡ r) × (e ≡ 0 → ⊥)
-more-inv true e i h = absurd (let z : _≡_ {A = ℕ} 0 1 = cc in omega arith)
-more-inv false e i h = (cc, eqb-false e 0 i)
-
-last-inv : (t : Bool) (e : ℕ) (r : Point) → eqb e 0 ≡ t → Last ≡ cond t Last (More r) → e ≡ 0
-last-inv true e r i h = eqb-true e 0 i
-last-inv false e r i h = absurd (let z : _≡_ {A = ℕ} 0 1 = cc in omega arith)
-
 module _ (s : List ℕ) (p : Point) where
-  pub is-more : (q : Point) → More q ≡ furtherOf s p → (q ≡ after s p) × (lineAt s p .end ≡ 0 → ⊥)
-  is-more q h = more-inv (eqb (lineAt s p .end) 0) (lineAt s p .end) refl h
-
-  pub is-last : Last ≡ furtherOf s p → lineAt s p .end ≡ 0
-  is-last h = last-inv (eqb (lineAt s p .end) 0) (lineAt s p .end) (after s p) refl h
-
   pub past-last : lineAt s p .end ≡ 0 → linesPast s p ≡ []
   past-last e = rw (eq-eqb (lineAt s p .end) 0 e)
 
@@ -117,32 +98,109 @@ module _ (s : List ℕ) (p : Point) where
       unfolding heads
       heads-open e = rw (lines-from s p, past-more z, lines-from s (after s p), e)
 
--- a head that is found at a line from which the same tables come
-pub opened-here : (s : List ℕ) (on : Bool) (p q : Point) (o : Opened) → AtLine s q → p .index ≤ q .index → heads kindOf on (linesFrom s q) ≡ heads kindOf on (linesFrom s p) → Accepted o ≡ headAt s q on false → Opens s on p q o
-opened-here s on p q o h i e f =
-    let a = is-accepted s q on false o f in
-    let z = refused-end on false (lineAt s q) (lineAt s (after s q)) (a .1) in
-    let k = opens-yes kindOf on (here s q) (here s (after s q)) (a .1) in
-    record { at = h; onward = i; ended = z; parts = a .0; opened = k; tables = sym e ∙ heads-open s q on z k }
+-- ## A line that is read: e is where its bytes end, n how long its line end is
+
+module _ (s : List ℕ) (l i e n : ℕ) (f : e ≡ i + length (lineBody (drop i s))) (g : n ≡ endAt (drop e s)) where
+  abbrev from : Point
+  from = pointIn l i 1
+
+  pub read-end : n ≡ lineAt s from .end
+  read-end = g ∙ ap (λ (j : ℕ). endAt (drop j s)) f ∙ end-past s from
+
+  pub read-next : pointIn (l + 1) (e + n) 1 ≡ after s from
+  read-next = rw (read-end, f)
+
+  module _ (h : AtLine s from) where
+    pub read-stop : e ≤ length s
+    read-stop = rw f (body-inside s from (h .inside) .within)
+
+    pub read-line : (n ≡ 0 → ⊥) → AtLine s (pointIn (l + 1) (e + n) 1)
+    read-line z = rw read-next (after-line s from (λ w. z (read-end ∙ w)) (h .inside))
 
 -- ## A line is tried as a head
 
-pub tried : (s : List ℕ) (on : Bool) (p : Point) (r : Answer) → r ≡ headAt s p on false → Tried s on p r
-tried s on p (Accepted o) e = e
-tried s on p (Refused k) e = is-refused s p on false k e .1
+-- by the answers: the head line's indent is permitted, it has no line end, it is a lone divider, the next line is a delimiter row, its values are as many as the cells
+no-columns : (a e b r : Bool) (n : ℕ) (t : Bool) → (r ≡ true → 0 < n) → cond (r && a) (cond (not b && t) n 0) 0 ≡ 0
+    → _≡_ {A = ℕ} (cond (not a) 3 (cond (e || b) 4 (cond false 5 (cond (not r) 6 (cond (not t) 7 0))))) 0 → ⊥
+no-columns false e b r n t f g h = omega arith
+no-columns true true b r n t f g h = omega arith
+no-columns true false true r n t f g h = omega arith
+no-columns true false false false n t f g h = omega arith
+no-columns true false false true n false f g h = omega arith
+no-columns true false false true n true f g h = omega (arith, f refl, g)
 
--- it is none where the next line is no delimiter row
-no-head : (on : Bool) (l d : Line) → isDelimiterRow kindOf on (d .body) ≡ false → headRefusal kindOf on false l d ≡ 0 → ⊥
-no-head on l d e z = go (permitted kindOf on (l .body)) (eqb (l .end) 0 || loneDivider (solid (rowPieces kindOf false (l .body)))) (rw e at z)
+some-columns : (a b r : Bool) (n : ℕ) (t : Bool) → (cond (r && a) (cond (not b && t) n 0) 0 ≡ 0 → ⊥)
+    → (_≡_ {A = ℕ} (cond (not a) 3 (cond (false || b) 4 (cond false 5 (cond (not r) 6 (cond (not t) 7 0))))) 0) × (cond (r && a) (cond (not b && t) n 0) 0 ≡ n)
+some-columns true false true n true f = (refl, refl)
+some-columns a b false n t f = absurd (f refl)
+some-columns false b true n t f = absurd (f refl)
+some-columns true true true n t f = absurd (f refl)
+some-columns true false true n false f = absurd (f refl)
+
+-- a delimiter row has values
+row-some : (a b : Bool) (n : ℕ) (c : Bool) → a && (b && (ltb 0 n && c)) ≡ true → 0 < n
+row-some true true n c h = go (ltb 0 n) refl h
   where
-    go : (t u : Bool) → _≡_ {A = ℕ} (cond (not t) 3 (cond u 4 6)) 0 → ⊥
-    go false u f = omega arith
-    go true true f = omega arith
-    go true false f = omega arith
+    go : (t : Bool) → ltb 0 n ≡ t → t && c ≡ true → 0 < n
+    go true e k = ltb-true 0 n e
+    go false e k = absurd (false≢true k)
+row-some true false n c h = absurd (false≢true h)
+row-some false b n c h = absurd (false≢true h)
 
-bad : (t : Bool) (n : ℕ) (q : Point) → NoValues ≡ cond t (Count n q) NoValues → t ≡ false
-bad true n q e = absurd (let z : _≡_ {A = ℕ} 0 1 = cc in omega arith)
-bad false n q e = refl
+module _ (s : List ℕ) (on : Bool) (p : Point) where
+  abbrev head : List ℕ
+  head = restOf s p
 
-pub tried-none : (s : List ℕ) (on : Bool) (p d : Point) → d ≡ after s p → NoValues ≡ delimiterAt on d (restOf s d) → headRefusal kindOf on false (lineAt s p) (lineAt s (after s p)) ≡ 0 → ⊥
-tried-none s on p d e f = no-head on (lineAt s p) (lineAt s (after s p)) (bad (isDelimiterRow kindOf on (restOf s (after s p))) _ _ (rw e at f))
+  abbrev row : List ℕ
+  row = restOf s (after s p)
+
+  -- no columns, no head
+  pub columns-none : columnsOf s on (p .index) (after s p .index) ≡ 0 → headRefusal kindOf on false (lineAt s p) (lineAt s (after s p)) ≡ 0 → ⊥
+  columns-none =
+      no-columns (permitted kindOf on head) (eqb (lineAt s p .end) 0) (loneDivider (solid (rowPieces kindOf false head))) (isDelimiterRow kindOf on row) (length (values kindOf row))
+      (eqb (length (values kindOf row)) (headCells kindOf head)) (row-some (permitted kindOf on row) (marked kindOf row) (length (values kindOf row)) (allValues kindOf (values kindOf row)))
+
+  -- some columns, a head with as many values
+  columns-some : (lineAt s p .end ≡ 0 → ⊥) → (columnsOf s on (p .index) (after s p .index) ≡ 0 → ⊥)
+      → (headRefusal kindOf on false (lineAt s p) (lineAt s (after s p)) ≡ 0) × (columnsOf s on (p .index) (after s p .index) ≡ length (values kindOf row))
+  columns-some z h =
+      let y = some-columns (permitted kindOf on head) (loneDivider (solid (rowPieces kindOf false head))) (isDelimiterRow kindOf on row) (length (values kindOf row)) (eqb (length (values kindOf row)) (headCells kindOf head)) h in
+      (rw (ne-eqb (lineAt s p .end) 0 z) (y .0), y .1)
+
+-- ## Its columns, counted
+
+module _ (s : List ℕ) (on : Bool) (i d : ℕ) where
+  abbrev counted : List ℕ
+  counted = lineBody (drop d s)
+
+  -- the next line has no values
+  pub columns-zero : 0 ≡ valueCount counted → 0 ≡ columnsOf s on i d
+  columns-zero h = rw (row-counted counted on, ← h, and-false (permitted kindOf on counted))
+
+  -- an indent is not permitted
+  pub columns-row : permitted kindOf on counted ≡ false → 0 ≡ columnsOf s on i d
+  columns-row h = rw h
+
+  pub columns-head : permitted kindOf on (lineBody (drop i s)) ≡ false → 0 ≡ columnsOf s on i d
+  columns-head h = rw (h, and-false (isDelimiterRow kindOf on counted))
+
+  -- they are
+  pub columns-both : (valueCount counted ≡ 0 → ⊥) → permitted kindOf on counted ≡ true → permitted kindOf on (lineBody (drop i s)) ≡ true → columnsIf s i (valueCount counted) ≡ columnsOf s on i d
+  columns-both z h k =
+      let v : 0 < valueCount counted = omega (arith, z) in
+      rw (row-counted counted on, h, k, lt-ltb 0 (valueCount counted) v) (ap (columnsIf s i) (count-values counted v))
+
+-- a head that is found at a line from which the same tables come
+pub opened-here : (s : List ℕ) (on : Bool) (p : Point) (l i d c : ℕ) → AtLine s (pointIn l i 1) → (lineAt s (pointIn l i 1) .end ≡ 0 → ⊥) → heads kindOf on (linesFrom s (pointIn l i 1)) ≡ heads kindOf on (linesFrom s p)
+    → d ≡ after s (pointIn l i 1) .index → c ≡ columnsOf s on i d → (c ≡ 0 → ⊥) → Opens s on p (record { found = true; line = l; at = i; delimiter = d; columns = c })
+opened-here s on p l i d c h z e f g k =
+    let q = pointIn l i 1 in
+    let x : c ≡ columnsOf s on i (after s q .index) = g ∙ ap (columnsOf s on i) f in
+    let y = columns-some s on q z (λ w. k (x ∙ w)) in
+    record {
+      at = h;
+      ended = z;
+      delimiter = f;
+      columns = x ∙ y .1 ∙ ap (λ (j : ℕ). length (values kindOf (lineBody (drop j s)))) (sym f);
+      tables = sym e ∙ heads-open s q on z (opens-yes kindOf on (here s q) (here s (after s q)) (y .0));
+    }

@@ -5,24 +5,25 @@ use mathlib.Core.Path.{_≡_, refl, ap, sym, _∙_, subst}
 use mathlib.Core.Bool.{Bool, true, false}
 use mathlib.Core.List.{List, [], _∷_}
 use Rattle.tokenizer.specs.declared.event.Point.{Point}
-use lib.ListN.{length}
+use lib.ListN.{length, drop}
 use Rattle.tokenizer.specs.declared.event.Event.{Event}
 use Rattle.tokenizer.specs.Bytes.{kindOf}
 use Rattle.tokenizer.specs.Events.{GfmTableHead, leave, pointOf}
-use Rattle.tokenizer.specs.Lines.{blank}
+use Rattle.tokenizer.specs.Lines.{lineBody, blank}
 use Rattle.tokenizer.specs.Places.{Placed, endOf, linesFrom, linesPast}
-use Rattle.tokenizer.specs.Moves.{restOf, lineAt, after, Inside}
+use Rattle.tokenizer.specs.Moves.{restOf, lineAt, after}
 use Rattle.edit_map.specs.Tables.{BodyRow, lastExit}
 use Rattle.sheet.specs.Walk.{bodyRows, heads, rows}
-use Rattle.gfm_table.specs.declared.heads.Opened.{Opened}
+use Rattle.gfm_table.specs.Heads.{values}
 use Rattle.gfm_table.specs.Places.{pointIn}
+use Rattle.sheet.specs.declared.seek.Opening.{Opening}
 use Rattle.sheet.specs.declared.spans.Where.{Where}
 use Rattle.sheet.specs.declared.spans.Tail.{Tail}
-use Rattle.sheet.specs.From.{Opens, here}
+use Rattle.sheet.specs.From.{AtLine, openedAt, Opens, here}
 use Rattle.sheet.specs.Spans.{startOf, lastPoint, lastStop, EndsBody, Comes}
 use Rattle.sheet.proofs.From.{past-last, after-line}
 use Rattle.sheet.proofs.Bodies.{next-lines}
-use Rattle.sheet.proofs.Aligned.{aligned-cells}
+use Rattle.sheet.proofs.Bounds.{aligned-length}
 
 -- the last exit is told by the point before it
 last-exit : (e f : Event) (bs : List BodyRow) → pointOf e ≡ pointOf f → pointOf (lastExit e bs) ≡ pointOf (lastExit f bs)
@@ -51,31 +52,27 @@ module _ (s : List ℕ) (p : Point) where
 
 -- ## A table
 
-module _ (s : List ℕ) (on : Bool) (w : Where) where
-  -- what a head opens, whose line starts at a place
-  opened : (l i : ℕ) (o : Opened) (r : Tail) → Opens s on (startOf w) (pointIn l i 1) o → EndsBody s (o .delimiter) r
-      → Comes s on (record { found = true; line = l; at = i; delimiter = o .delimiter .index; cells = o .cells; stop = r .stop; next = r .next }) (heads kindOf on (linesFrom s (startOf w)))
-  opened l i o r h b =
-      let q = pointIn l i 1 in
-      let d = ap (λ (x : Opened). x .delimiter) (h .parts) in
+module _ (s : List ℕ) (on : Bool) (w : Where) (o : Opening) (h : Opens s on (startOf w) o) where
+  -- the line of its delimiter row
+  row-point : after s (openedAt o) ≡ pointIn (o .line + 1) (o .delimiter) 1
+  row-point i = record { line = o .line + 1; column = 1; index = sym (h .delimiter) i; vs = 0 }
+
+  pub row-line : AtLine s (pointIn (o .line + 1) (o .delimiter) 1)
+  row-line = subst (AtLine s) row-point (after-line s (openedAt o) (h .ended) (h .at .inside))
+
+  -- the table that a head opens comes next
+  pub comes-of : (r : Tail) → EndsBody s (pointIn (o .line + 1) (o .delimiter) 1) r
+      → Comes s on (record { found = true; line = o .line; at = o .at; delimiter = o .delimiter; cells = o .columns; stop = r .stop; next = r .next }) (heads kindOf on (linesFrom s (startOf w)))
+  comes-of r b =
       rw (h .tables)
       (record {
         found = refl;
         at = h .at;
         ended = h .ended;
         table = refl;
-        delimiter = ap (λ (x : Point). x .index) d;
-        cells = ap (λ (x : Opened). x .cells) (h .parts) ∙ sym (aligned-cells on (here s q) (here s (after s q)) (h .opened));
-        stop = b .stop ∙ ap (lastStop s) d;
+        delimiter = h .delimiter;
+        cells = h .columns ∙ ap (λ (j : ℕ). length (values kindOf (lineBody (drop j s)))) (h .delimiter) ∙ sym (aligned-length (values kindOf (restOf s (after s (openedAt o)))));
+        stop = b .stop ∙ ap (lastStop s) (sym row-point);
         next = b .at;
-        tables = sym (ap (λ (p : Point). rows kindOf on (linesPast s p)) d) ∙ b .tables on;
+        tables = ap (λ (p : Point). rows kindOf on (linesPast s p)) row-point ∙ b .tables on;
       })
-
-  -- the same at the point where it was found
-  pub comes-of : (q : Point) (o : Opened) (r : Tail) → Opens s on (startOf w) q o → EndsBody s (o .delimiter) r
-      → Comes s on (record { found = true; line = q .line; at = q .index; delimiter = o .delimiter .index; cells = o .cells; stop = r .stop; next = r .next }) (heads kindOf on (linesFrom s (startOf w)))
-  comes-of q o r h b = opened (q .line) (q .index) o r (subst (λ (x : Point). Opens s on (startOf w) x o) (λ j. record { line = q .line; column = h .at .first j; index = q .index; vs = h .at .inside .flat j }) h) b
-
-  -- where its body begins
-  pub opened-body : (q : Point) (o : Opened) → Opens s on (startOf w) q o → Inside s (o .delimiter) × (o .end .index ≡ o .delimiter .index + length (restOf s (o .delimiter)))
-  opened-body q o h = rw (h .parts) (after-line s q (h .ended) (h .at .inside) .inside, refl)

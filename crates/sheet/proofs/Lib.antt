@@ -4,7 +4,6 @@ pub mod From
 pub mod Stops
 pub mod Bounds
 pub mod Bodies
-pub mod Aligned
 pub mod LastRow
 pub mod Placing
 pub mod Aligning

@@ -1,20 +1,20 @@
 -- The next head from a line on.
-use Prim.Native.Nat.{ℕ, _≤_}
+use Prim.Native.Nat.{ℕ}
 use mathlib.Core.Path.{_≡_}
 use mathlib.Core.List.{List, [], _∷_}
-use mathlib.Core.Bool.{Bool, true, false}
+use mathlib.Core.Bool.{Bool, true, false, cond, _&&_, not}
+use lib.Dec.{eqb}
+use lib.ListN.{length, drop}
 use Rattle.tokenizer.specs.declared.event.Point.{Point}
 use Rattle.tokenizer.specs.Bytes.{kindOf}
+use Rattle.tokenizer.specs.Lines.{lineBody}
 use Rattle.tokenizer.specs.Places.{Placed, linesFrom, linesPast}
 use Rattle.tokenizer.specs.Moves.{lineAt, after, Inside}
-use Rattle.gfm_table.specs.declared.heads.Opened.{Opened}
-use Rattle.gfm_table.specs.declared.heads.Answer.{Answer}
-use Rattle.gfm_table.specs.declared.heads.Answer.the-variants.{Refused, Accepted}
-use Rattle.gfm_table.specs.Heads.{headRefusal}
-use Rattle.gfm_table.specs.Answers.{openedAt, headAt}
-use Rattle.sheet.specs.declared.seek.Next.{Next}
-use Rattle.sheet.specs.declared.seek.Next.the-variants.{Head, Nothing}
-use Rattle.sheet.specs.Walk.{opens, found, heads, rows}
+use Rattle.gfm_table.specs.Rows.{rowPieces}
+use Rattle.gfm_table.specs.Heads.{solid, loneDivider, headCells, permitted, isDelimiterRow, values}
+use Rattle.gfm_table.specs.Places.{pointIn}
+use Rattle.sheet.specs.declared.seek.Opening.{Opening}
+use Rattle.sheet.specs.Walk.{found, heads, rows}
 
 -- the first point of a line
 pub record AtLine (s : List ℕ) (p : Point) : Type 0 where
@@ -25,23 +25,36 @@ pub record AtLine (s : List ℕ) (p : Point) : Type 0 where
 abbrev pub here : List ℕ → Point → Placed
 here s p = record { at = p; line = lineAt s p }
 
--- the tables from the line p on begin with the one that o opens at the line q
-pub record Opens (s : List ℕ) (on : Bool) (p q : Point) (o : Opened) : Type 0 where
-  pub at : AtLine s q
-  pub onward : p .index ≤ q .index
-  pub ended : lineAt s q .end ≡ 0 → ⊥
-  pub parts : o ≡ openedAt s q
-  pub opened : opens kindOf on (here s q) (here s (after s q)) ≡ true
+-- the number n, where the line at the place i has n cells and more than a lone divider; otherwise 0
+abbrev pub columnsIf : List ℕ → ℕ → ℕ → ℕ
+columnsIf s i n =
+    let u = lineBody (drop i s) in
+    cond (not (loneDivider (solid (rowPieces kindOf false u))) && eqb n (headCells kindOf u)) n 0
+
+-- the columns of the head whose line starts at the place i and whose delimiter row at d, 0 where they are no head
+abbrev pub columnsOf : List ℕ → Bool → ℕ → ℕ → ℕ
+columnsOf s on i d =
+    cond (isDelimiterRow kindOf on (lineBody (drop d s)) && permitted kindOf on (lineBody (drop i s))) (columnsIf s i (length (values kindOf (lineBody (drop d s))))) 0
+
+-- where a head's line starts
+abbrev pub openedAt : Opening → Point
+openedAt o = pointIn (o .line) (o .at) 1
+
+-- the tables from the line p on begin with the one that o opens
+pub record Opens (s : List ℕ) (on : Bool) (p : Point) (o : Opening) : Type 0 where
+  pub at : AtLine s (openedAt o)
+  pub ended : lineAt s (openedAt o) .end ≡ 0 → ⊥
+  pub delimiter : o .delimiter ≡ after s (openedAt o) .index
+  pub columns : o .columns ≡ length (values kindOf (lineBody (drop (o .delimiter) s)))
   pub tables :
       heads kindOf on (linesFrom s p)
-      ≡ found kindOf on (here s q) (here s (after s q)) (linesPast s (after s q)) ∷ rows kindOf on (linesPast s (after s q))
+      ≡ found kindOf on (here s (openedAt o)) (here s (after s (openedAt o))) (linesPast s (after s (openedAt o))) ∷ rows kindOf on (linesPast s (after s (openedAt o)))
 
--- a line that is tried as a head: what it opens, or that one of questions 3 to 7 is answered no
-abbrev pub Tried : List ℕ → Bool → Point → Answer → Type 0
-Tried s on p (Accepted o) = Accepted o ≡ headAt s p on false
-Tried s on p (Refused k) = headRefusal kindOf on false (lineAt s p) (lineAt s (after s p)) ≡ 0 → ⊥
+-- what is found, if a head is
+abbrev pub FindsIf : Bool → List ℕ → Bool → Point → Opening → Type 0
+FindsIf true s on p o = Opens s on p o
+FindsIf false s on p o = heads kindOf on (linesFrom s p) ≡ []
 
 -- the first head from a line on, or that there is none
-abbrev pub Finds : List ℕ → Bool → Point → Next → Type 0
-Finds s on p (Head q o) = Opens s on p q o
-Finds s on p Nothing = heads kindOf on (linesFrom s p) ≡ []
+abbrev pub Finds : List ℕ → Bool → Point → Opening → Type 0
+Finds s on p o = FindsIf (o .found) s on p o

@@ -1,90 +1,89 @@
-// The next head of a sheet, and the line behind a line.
-use gfm_table::delimiter::Values;
-use gfm_table::delimiter::head_delimiter_start;
-use gfm_table::delimiter::permits;
-use gfm_table::heads::Answer;
-use gfm_table::heads::Opened;
+// The next head of a sheet, in plain numbers.
+use gfm_table::delimiter::permits_at;
 use gfm_table::pieces::head_row;
-use tokenizer::event::Point;
-use tokenizer::lines::Further;
-use tokenizer::lines::line_after;
+use gfm_table::values::values_at;
 use tokenizer::lines::line_end;
+use tokenizer::lines::line_stop;
 ghost use mathlib.Core.Path.{_≡_};
-ghost use Prim.Native.Nat.{_+_};
+ghost use Prim.Native.Nat.{_≤_};
 ghost use lib.ListN.{length};
-ghost use Rattle.tokenizer.specs.Moves.{restOf, lineAt, after, furtherOf, Inside};
-ghost use Rattle.sheet.specs.From.{AtLine, Tried, Finds};
+ghost use Rattle.gfm_table.specs.Places.{pointIn};
+ghost use Rattle.sheet.specs.From.{AtLine, columnsIf, columnsOf, Finds};
 
-// A head: where its line starts, and what it opens.
-pub enum Next {
-    Head(Point, Opened),
-    Nothing,
+// Whether there is a head, where its line starts, where its delimiter row does, and how many columns it has.
+pub struct Opening {
+    pub found: bool,
+    pub line: u32,
+    pub at: u32,
+    pub delimiter: u32,
+    pub columns: u32,
 }
 
-// A head at a line. It is tried only where the next line, which starts at d, is a delimiter row: few lines are.
-pub fn head_above(s: &[u8], p: Point, d: Point, on: bool) -> Answer
-    requires { ⌜ AtLine (now s) p × AtLine (now s) d × (d ≡ after (now s) p) × (lineAt (now s) p .end ≡ 0 → ⊥) ⌝ }
-    ensures { λ r. ⌜ Tried (now (s .entry)) on p r ⌝ }
+impl Opening {
+    // No head.
+    pub const NONE: Opening = Opening {
+        found: false,
+        line: 1,
+        at: 0,
+        delimiter: 0,
+        columns: 0,
+    };
+}
+
+// The number n, where the line at a place has n cells and more than a lone divider; otherwise 0.
+pub fn columns_if(s: &[u8], at: usize, n: u32) -> u32
+    requires { ⌜ (length (now s) ≤ 65536) × (at ≤ length (now s)) ⌝ }
+    ensures { λ r. ⌜ r ≡ columnsIf (now (s .entry)) at n ⌝ }
 {
-    match head_delimiter_start(s, d, on) {
-        Values::Bad => Answer::Refused(6),
-        Values::Count(n, e) => {
-            if permits(s, p, on) {
-                let r = head_row(s, p.index as usize);
-                if r.size_b <= 1 {
-                    return Answer::Refused(4);
-                }
-                if n == r.size {
-                    return Answer::Accepted(Opened {
-                        cells: n,
-                        pieces: r.pieces,
-                        delimiter: d,
-                        end: e,
-                    });
-                }
-                return Answer::Refused(7);
-            }
-            Answer::Refused(3)
+    let r = head_row(s, at);
+    if r.size_b <= 1 {
+        return 0;
+    }
+    if n == r.size { n } else { 0 }
+}
+
+// The columns of the head whose line and delimiter row start at two places, 0 where they are no head. Few lines are delimiter rows, so that is asked first.
+pub fn columns_at(s: &[u8], at: usize, d: usize, on: bool) -> u32
+    requires { ⌜ (length (now s) ≤ 65536) × (at ≤ length (now s)) × (d ≤ length (now s)) ⌝ }
+    ensures { λ r. ⌜ r ≡ columnsOf (now (s .entry)) on at d ⌝ }
+{
+    let n = values_at(s, d);
+    if n == 0 {
+        return 0;
+    }
+    if permits_at(s, d, on) {
+        if permits_at(s, at, on) {
+            return columns_if(s, at, n);
         }
     }
+    0
 }
 
 // The first head from a line on: one is tried at each line.
-pub fn next_head(s: &[u8], p: Point, on: bool) -> Next
-    requires { ⌜ AtLine (now s) p ⌝ }
-    ensures { λ r. ⌜ Finds (now (s .entry)) on p r ⌝ }
+pub fn next_head(s: &[u8], line: u32, from: u32, on: bool) -> Opening
+    requires { ⌜ AtLine (now s) (pointIn line from 1) ⌝ }
+    ensures { λ r. ⌜ Finds (now (s .entry)) on (pointIn line from 1) r ⌝ }
 {
-    let mut q = p;
+    let mut l = line;
+    let mut i = from as usize;
     loop {
-        match line_after(s, q) {
-            Further::Last => {
-                return Next::Nothing;
-            }
-            Further::More(d) => match head_above(s, q, d, on) {
-                Answer::Accepted(o) => {
-                    return Next::Head(q, o);
-                }
-                Answer::Refused(k) => {
-                    q = d;
-                }
-            },
+        let e = line_stop(s, i);
+        let n = line_end(s, e) as usize;
+        if n == 0 {
+            return Opening::NONE;
         }
+        let d = e + n;
+        let c = columns_at(s, i, d, on);
+        if c != 0 {
+            return Opening {
+                found: true,
+                line: l,
+                at: i as u32,
+                delimiter: d as u32,
+                columns: c,
+            };
+        }
+        l += 1;
+        i = d;
     }
-}
-
-// The line after the one of a point whose bytes end at a place.
-pub fn line_behind(s: &[u8], p: Point, end: usize) -> Further
-    requires { ⌜ Inside (now s) p × (end ≡ p .index + length (restOf (now s) p)) ⌝ }
-    ensures { λ r. ⌜ r ≡ furtherOf (now (s .entry)) p ⌝ }
-{
-    let n = line_end(s, end);
-    if n == 0 {
-        return Further::Last;
-    }
-    Further::More(Point {
-        line: p.line + 1,
-        column: 1,
-        index: end as u32 + n,
-        vs: 0,
-    })
 }

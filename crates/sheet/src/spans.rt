@@ -1,19 +1,17 @@
 // A sheet's tables by places: the line where each starts, and where its rows end.
-use crate::seek::Next;
-use crate::seek::line_behind;
 use crate::seek::next_head;
-use tokenizer::event::Point;
-use tokenizer::lines::Further;
-use tokenizer::lines::is_blank;
+use gfm_table::pieces::spaces_end;
+use tokenizer::lines::line_end;
 use tokenizer::lines::line_stop;
+use tokenizer::moves::kind_at;
 ghost use mathlib.Core.Path.{_≡_};
-ghost use Prim.Native.Nat.{_+_};
-ghost use lib.ListN.{length};
-ghost use Rattle.tokenizer.specs.Moves.{restOf, Inside};
-ghost use Rattle.sheet.specs.From.{AtLine};
+ghost use lib.ListN.{drop};
 ghost use Rattle.tokenizer.specs.Bytes.{kindOf};
+ghost use Rattle.tokenizer.specs.Lines.{lineBody, blank};
 ghost use Rattle.tokenizer.specs.Places.{linesFrom};
+ghost use Rattle.gfm_table.specs.Places.{pointIn};
 ghost use Rattle.sheet.specs.Walk.{heads};
+ghost use Rattle.sheet.specs.From.{AtLine};
 ghost use Rattle.sheet.specs.Spans.{startOf, EndsBody, Comes};
 
 // Where a line starts: its number and its index.
@@ -52,39 +50,42 @@ impl Span {
     };
 }
 
-// The end of the body rows after a line of a table whose bytes end at a place.
-pub fn body_end(s: &[u8], p: Point, end: usize) -> Tail
-    requires { ⌜ Inside (now s) p × (end ≡ p .index + length (restOf (now s) p)) ⌝ }
-    ensures { λ r. ⌜ EndsBody (now (s .entry)) p r ⌝ }
+// Whether the line at a place is blank.
+pub fn blank_at(s: &[u8], at: usize) -> bool
+    ensures { λ r. ⌜ r ≡ blank kindOf (lineBody (drop at (now (s .entry)))) ⌝ }
 {
-    let mut q = p;
-    let mut e = end;
+    kind_at(s, spaces_end(s, at)) == 2
+}
+
+// The end of the body rows after a line of a table.
+pub fn body_end(s: &[u8], line: u32, at: u32) -> Tail
+    requires { ⌜ AtLine (now s) (pointIn line at 1) ⌝ }
+    ensures { λ r. ⌜ EndsBody (now (s .entry)) (pointIn line at 1) r ⌝ }
+{
+    let mut l = line;
+    let mut i = at as usize;
     loop {
-        match line_behind(s, q, e) {
-            Further::Last => {
-                let stop = e as u32;
-                return Tail {
-                    stop,
-                    next: Where {
-                        line: q.line,
-                        at: stop,
-                    },
-                };
-            }
-            Further::More(t) => {
-                if is_blank(s, t) {
-                    return Tail {
-                        stop: e as u32,
-                        next: Where {
-                            line: t.line,
-                            at: t.index,
-                        },
-                    };
-                }
-                e = line_stop(s, t.index as usize);
-                q = t;
-            }
+        let e = line_stop(s, i);
+        let n = line_end(s, e) as usize;
+        if n == 0 {
+            let stop = e as u32;
+            return Tail {
+                stop,
+                next: Where { line: l, at: stop },
+            };
         }
+        let t = e + n;
+        l += 1;
+        if blank_at(s, t) {
+            return Tail {
+                stop: e as u32,
+                next: Where {
+                    line: l,
+                    at: t as u32,
+                },
+            };
+        }
+        i = t;
     }
 }
 
@@ -93,28 +94,19 @@ pub fn table_from(s: &[u8], on: bool, w: Where) -> Span
     requires { ⌜ AtLine (now s) (startOf w) ⌝ }
     ensures { λ r. ⌜ Comes (now (s .entry)) on r (heads kindOf on (linesFrom (now (s .entry)) (startOf w))) ⌝ }
 {
-    let p = Point {
-        line: w.line,
-        column: 1,
-        index: w.at,
-        vs: 0,
-    };
-    match next_head(s, p, on) {
-        Next::Nothing => Span::NONE,
-        Next::Head(q, o) => {
-            let d = o.delimiter;
-            let e = o.end;
-            let t = body_end(s, d, e.index as usize);
-            let next = t.next;
-            Span {
-                found: true,
-                line: q.line,
-                at: q.index,
-                delimiter: d.index,
-                cells: o.cells,
-                stop: t.stop,
-                next,
-            }
-        }
+    let o = next_head(s, w.line, w.at, on);
+    if o.found {
+        let t = body_end(s, o.line + 1, o.delimiter);
+        let next = t.next;
+        return Span {
+            found: true,
+            line: o.line,
+            at: o.at,
+            delimiter: o.delimiter,
+            cells: o.columns,
+            stop: t.stop,
+            next,
+        };
     }
+    Span::NONE
 }

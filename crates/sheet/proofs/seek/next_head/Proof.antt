@@ -1,81 +1,101 @@
 -- `seek::next_head` meets its contract: from each line tried the same tables come. The measure is the bytes left.
 -- Assumes nothing.
-use Prim.Native.Nat.{_-_, _≤_}
-use mathlib.Core.Path.{_≡_, refl, sym, _∙_}
+use Prim.Native.Nat.{_+_, _-_}
+use mathlib.Core.Path.{_≡_, refl, ap, sym, _∙_}
 use native.Mathlib.Omega.{arith}
 use borrow.Author.Needs.{needs}
 use lib.ListN.{length}
 use denote.Ref.{now}
+use Rattle.tokenizer.specs.declared.event.Point.{Point}
 use Rattle.tokenizer.specs.Places.{linesFrom}
 use Rattle.tokenizer.specs.Bytes.{kindOf}
 use Rattle.tokenizer.specs.Moves.{lineAt, after}
+use Rattle.gfm_table.specs.Places.{pointIn}
 use Rattle.sheet.specs.Walk.{heads}
-use Rattle.sheet.specs.From.{AtLine}
-use Rattle.sheet.proofs.From.{is-more, is-last, after-line, heads-last, heads-prose, opened-here}
+use Rattle.sheet.specs.From.{AtLine, columnsOf}
+use Rattle.sheet.proofs.From.{read-end, read-next, read-line, heads-last, heads-prose, columns-none, opened-here}
 use Rattle.sheet.proofs.seek.next_head.Statement.{statement}
 use Rattle.sheet.proofs.seek.next_head.Tie as tie
 
 abbrev Inv-loop : tie.InvT-loop
-Inv-loop s on q₀ q = AtLine s q × (heads kindOf on (linesFrom s q) ≡ heads kindOf on (linesFrom s q₀)) × (q₀ .index ≤ q .index)
+Inv-loop s line from on l₀ i₀ l i = AtLine s (pointIn l i 1) × (heads kindOf on (linesFrom s (pointIn l i 1)) ≡ heads kindOf on (linesFrom s (pointIn line from 1)))
 
 abbrev μ-loop : tie.MeasureT-loop
-μ-loop s on q₀ q = length s - q .index
+μ-loop s line from on l₀ i₀ l i = length s - i
 
 loop-holds : tie.Need-loop-holds Inv-loop μ-loop
-loop-holds c = (c .before .pre, refl, omega arith)
+loop-holds c = (c .before .pre, refl)
 
-line-after-requires : tie.Need-line-after-requires Inv-loop μ-loop
-line-after-requires c κs = c .loop .inv .0 .inside
+line-stop-requires : tie.Need-line-stop-requires Inv-loop μ-loop
+line-stop-requires c κs = search needs
 
-enum-told : tie.Need-enum-told Inv-loop μ-loop
-enum-told c = search needs
+line-end-requires : tie.Need-line-end-requires Inv-loop μ-loop
+line-end-requires c κs = search needs
+
+cast-n : tie.Need-cast-n Inv-loop μ-loop
+cast-n c = search needs
+
+-- the line end that is read is the line's
+ending : (c : tie.After-line-end Inv-loop μ-loop) → let l = c .before .before .loop in c .line-end .result ≡ lineAt (now (c .before .before .before .before .args .s)) (pointIn (l .l) (l .i) 1) .end
+ending c = read-end _ (c .before .before .loop .l) _ _ _ (c .before .line-stop .ensures) (c .line-end .ensures)
 
 returns : tie.Need-returns Inv-loop μ-loop
 returns c =
-    let l = c .before .before .before .loop in
-    let a = c .before .before .before .before .before .args in
-    sym (l .inv .1) ∙ heads-last (now (a .s)) (l .q) (a .on) (is-last (now (a .s)) (l .q) (sym (c .enum-told .given .1) ∙ c .before .before .line-after .ensures))
+    let r = c .before in
+    let l = r .before .before .loop in
+    let a = r .before .before .before .before .args in
+    sym (l .inv .1) ∙ heads-last (now (a .s)) (pointIn (l .l) (l .i) 1) (a .on) (sym (ending r) ∙ c .if1 .taken)
 
-enum-known-d : tie.Need-enum-known-d Inv-loop μ-loop
-enum-known-d c = search needs
+-- the next line starts behind it
+next : (c : tie.After-line-end Inv-loop μ-loop) → let l = c .before .before .loop in
+    pointIn (l .l + 1) (c .before .line-stop .result + c .line-end .result) 1 ≡ after (now (c .before .before .before .before .args .s)) (pointIn (l .l) (l .i) 1)
+next c = read-next _ _ _ _ _ (c .before .line-stop .ensures) (c .line-end .ensures)
 
--- the line after the one that is tried
-next : (c : tie.After-known-told Inv-loop μ-loop) → let s = now (c .before .before .before .before .before .before .args .s) in let q = c .before .before .before .before .loop .q in (c .before .d .given .0 .0 ≡ after s q) × (lineAt s q .end ≡ 0 → ⊥)
-next c = is-more (now (c .before .before .before .before .before .before .args .s)) (c .before .before .before .before .loop .q) _ (sym (c .before .d .given .1) ∙ c .before .before .before .line-after .ensures)
+onward : (c : tie.Else1 Inv-loop μ-loop) → let r = c .before in AtLine (now (r .before .before .before .before .args .s)) (pointIn (r .before .before .loop .l + 1) (r .before .line-stop .result + r .line-end .result) 1)
+onward c =
+    let r = c .before in
+    read-line _ _ _ _ _ (r .before .line-stop .ensures) (r .line-end .ensures) (r .before .before .loop .inv .0) (c .if1 .left)
 
-head-above-requires : tie.Need-head-above-requires Inv-loop μ-loop
-head-above-requires c κs =
-    let m = next c in
-    let l = c .before .before .before .before .loop in
-    (l .inv .0, rw (m .0) (after-line _ (l .q) (m .1) (l .inv .0 .inside)), m .0, m .1)
+add-d : tie.Need-add-d Inv-loop μ-loop
+add-d c = let h = onward c .inside in omega (arith, h .within, h .short)
 
-enum-known-o : tie.Need-enum-known-o Inv-loop μ-loop
-enum-known-o c = search needs
+columns-at-requires : tie.Need-columns-at-requires Inv-loop μ-loop
+columns-at-requires c κs =
+    let h = onward c .inside in
+    (h .short, c .before .before .before .loop .inv .0 .inside .within, h .within)
+
+cast-t13 : tie.Need-cast-t13 Inv-loop μ-loop
+cast-t13 c = let h = c .before .before .before .before .before .loop .inv .0 .inside in omega (arith, h .within, h .short)
+
+cast-t14 : tie.Need-cast-t14 Inv-loop μ-loop
+cast-t14 c = let h = onward (c .before .before) .inside in omega (arith, h .within, h .short)
 
 returns-2 : tie.Need-returns-2 Inv-loop μ-loop
 returns-2 c =
-    let l = c .before .before .before .before .before .before .before .before .loop in
-    let a = c .before .before .before .before .before .before .before .before .before .before .args in
-    opened-here (now (a .s)) (a .on) (a .p) (l .q) _ (l .inv .0) (l .inv .2) (l .inv .1) (rw (c .before .o .given .1) at (c .before .before .before .head-above .ensures))
+    let e = c .before .before in
+    let r = e .before in
+    let l = r .before .before .loop in
+    opened-here _ _ _ (l .l) (l .i) _ _ (l .inv .0) (λ z. e .if1 .left (ending r ∙ z)) (l .inv .1) (ap (λ (p : Point). p .index) (next r)) (c .before .columns-at .ensures) (c .if2 .taken)
 
-enum-known-k : tie.Need-enum-known-k Inv-loop μ-loop
-enum-known-k c = search needs
+add-l : tie.Need-add-l Inv-loop μ-loop
+add-l c = let h = onward (c .before .before) .inside in omega (arith, h .lined, h .within, h .short)
 
 loop-less : tie.Need-loop-less Inv-loop μ-loop
 loop-less c =
-    let m = next (c .before .before .before .before) in
-    let l = c .before .before .before .before .before .before .before .before .loop in
-    let i = after-line _ (l .q) (m .1) (l .inv .0 .inside) in
-    rw (m .0) (omega (arith, m .1, i .inside .within))
+    let e = c .before .before in
+    let h = onward e .inside in
+    omega (arith, h .within, e .if1 .left, e .before .before .line-stop .ensures)
 
 loop-again : tie.Need-loop-again Inv-loop μ-loop
 loop-again c =
-    let m = next (c .before .before .before .before) in
-    let l = c .before .before .before .before .before .before .before .before .loop in
-    let a = c .before .before .before .before .before .before .before .before .before .before .args in
-    let x = rw (c .before .k .given .1) at (c .before .before .before .head-above .ensures) in
-    rw (m .0)
-    (after-line (now (a .s)) (l .q) (m .1) (l .inv .0 .inside), sym (heads-prose (now (a .s)) (l .q) (a .on) (m .1) x) ∙ l .inv .1, omega (arith, m .1, l .inv .2))
+    let e = c .before .before in
+    let r = e .before in
+    let l = r .before .before .loop in
+    let a = r .before .before .before .before .args in
+    let s = now (a .s) in
+    let q = pointIn (l .l) (l .i) 1 in
+    let y = ap (λ (p : Point). columnsOf s (a .on) (l .i) (p .index)) (sym (next r)) ∙ sym (c .before .columns-at .ensures) ∙ c .if2 .left in
+    (onward e, ap (λ (p : Point). heads kindOf (a .on) (linesFrom s p)) (next r) ∙ sym (heads-prose s q (a .on) (λ z. e .if1 .left (ending r ∙ z)) (columns-none s (a .on) q y)) ∙ l .inv .1)
 
 pub next-head-spec : {M : Type 1} → statement M
 next-head-spec =
@@ -84,13 +104,15 @@ next-head-spec =
     Inv-loop
     μ-loop
     loop-holds
-    line-after-requires
-    enum-told
+    line-stop-requires
+    line-end-requires
+    cast-n
     returns
-    enum-known-d
-    head-above-requires
-    enum-known-o
+    add-d
+    columns-at-requires
+    cast-t13
+    cast-t14
     returns-2
-    enum-known-k
+    add-l
     loop-less
     loop-again)

@@ -8,13 +8,16 @@ use borrow.Author.Needs.{needs}
 use lib.ListN.{length}
 use denote.Ref.{now}
 use Rattle.tokenizer.specs.declared.event.Point.{Point}
-use Rattle.tokenizer.specs.Places.{linesPast}
+use Rattle.tokenizer.specs.Lines.{blank}
+use Rattle.tokenizer.specs.Places.{linesFrom, linesPast}
 use Rattle.tokenizer.specs.Bytes.{kindOf}
-use Rattle.tokenizer.specs.Moves.{restOf, lineAt, after, Inside}
+use Rattle.tokenizer.specs.Moves.{restOf, lineAt, after}
 use Rattle.tokenizer.proofs.Ends.{body-inside}
-use Rattle.sheet.specs.Walk.{rows}
+use Rattle.gfm_table.specs.Places.{pointIn}
+use Rattle.sheet.specs.Walk.{heads, rows}
+use Rattle.sheet.specs.From.{AtLine}
 use Rattle.sheet.specs.Spans.{startOf, lastPoint}
-use Rattle.sheet.proofs.From.{is-more, is-last, after-line, heads-last}
+use Rattle.sheet.proofs.From.{read-end, read-next, read-stop, read-line, heads-last}
 use Rattle.sheet.proofs.Stops.{stop-end}
 use Rattle.sheet.proofs.Bodies.{rows-last, rows-blank, rows-row}
 use Rattle.sheet.proofs.LastRow.{last-end, last-blank, last-row}
@@ -22,100 +25,115 @@ use Rattle.sheet.proofs.spans.body_end.Statement.{statement}
 use Rattle.sheet.proofs.spans.body_end.Tie as tie
 
 abbrev Inv-loop : tie.InvT-loop
-Inv-loop s end q₀ e₀ q e =
-    Inside s q
-    × (e ≡ q .index + length (restOf s q))
-    × (lastPoint s q ≡ lastPoint s q₀)
-    × ((on : Bool) → rows kindOf on (linesPast s q) ≡ rows kindOf on (linesPast s q₀))
+Inv-loop s line at l₀ i₀ l i =
+    AtLine s (pointIn l i 1)
+    × (lastPoint s (pointIn l i 1) ≡ lastPoint s (pointIn line at 1))
+    × ((on : Bool) → rows kindOf on (linesPast s (pointIn l i 1)) ≡ rows kindOf on (linesPast s (pointIn line at 1)))
 
 abbrev μ-loop : tie.MeasureT-loop
-μ-loop s end q₀ e₀ q e = length s - q .index
+μ-loop s line at l₀ i₀ l i = length s - i
 
 loop-holds : tie.Need-loop-holds Inv-loop μ-loop
-loop-holds c = (c .before .pre .0, c .before .pre .1, refl, λ on. refl)
-
-line-behind-requires : tie.Need-line-behind-requires Inv-loop μ-loop
-line-behind-requires c κs = (c .loop .inv .0, c .loop .inv .1)
-
-enum-told : tie.Need-enum-told Inv-loop μ-loop
-enum-told c = search needs
-
-cast-stop : tie.Need-cast-stop Inv-loop μ-loop
-cast-stop c =
-    let l = c .before .before .before .loop in
-    let i = body-inside _ (l .q) (l .inv .0) in
-    omega (arith, l .inv .1, i .within, i .short)
-
-returns : tie.Need-returns Inv-loop μ-loop
-returns c =
-    let l = c .before .before .before .loop in
-    let s = now (c .before .before .before .before .before .args .s) in
-    let e = is-last s (l .q) (sym (c .enum-told .given .1) ∙ c .before .before .line-behind .ensures) in
-    let i = body-inside s (l .q) (l .inv .0) in
-    rw (l .inv .1)
-    (record {
-      stop = ap (λ (x : Point). x .index) (sym (last-end s (l .q) e) ∙ l .inv .2);
-      at = record { inside = record { short = i .short; within = i .within; narrow = omega arith; lined = i .lined; flat = refl }; first = refl };
-      tables = λ on. sym (l .inv .3 on) ∙ rows-last s (l .q) e on ∙ sym (heads-last s (startOf (record { line = l .q .line; at = l .q .index + length (restOf s (l .q)) })) on (stop-end s (l .q) ∙ e));
-    })
-
-enum-known-t : tie.Need-enum-known-t Inv-loop μ-loop
-enum-known-t c = search needs
-
--- the next line
-next : (c : tie.After-known-told Inv-loop μ-loop) → let s = now (c .before .before .before .before .before .before .args .s) in let q = c .before .before .before .before .loop .q in
-    (c .before .t .given .0 .0 ≡ after s q) × (lineAt s q .end ≡ 0 → ⊥)
-next c = is-more (now (c .before .before .before .before .before .before .args .s)) (c .before .before .before .before .loop .q) _ (sym (c .before .t .given .1) ∙ c .before .before .before .line-behind .ensures)
-
-is-blank-requires : tie.Need-is-blank-requires Inv-loop μ-loop
-is-blank-requires c κs =
-    let l = c .before .before .before .before .loop in
-    let m = next c in
-    rw (m .0) (after-line _ (l .q) (m .1) (l .inv .0) .inside)
-
-cast-t11 : tie.Need-cast-t11 Inv-loop μ-loop
-cast-t11 c =
-    let l = c .before .before .before .before .before .before .loop in
-    let i = body-inside _ (l .q) (l .inv .0) in
-    omega (arith, l .inv .1, i .within, i .short)
-
-returns-2 : tie.Need-returns-2 Inv-loop μ-loop
-returns-2 c =
-    let k = c .before .before in
-    let l = k .before .before .before .before .loop in
-    let s = now (k .before .before .before .before .before .before .args .s) in
-    let m = next k in
-    let b = sym (rw (m .0) at (c .before .is-blank .ensures)) ∙ c .if1 .taken in
-    rw (m .0, l .inv .1)
-    (record {
-      stop = ap (λ (x : Point). x .index) (sym (last-blank s (l .q) (m .1) b) ∙ l .inv .2);
-      at = after-line s (l .q) (m .1) (l .inv .0);
-      tables = λ on. sym (l .inv .3 on) ∙ rows-blank s (l .q) (m .1) b on;
-    })
-
-cast-line-stop : tie.Need-cast-line-stop Inv-loop μ-loop
-cast-line-stop c = search needs
+loop-holds c = (c .before .pre, refl, λ on. refl)
 
 line-stop-requires : tie.Need-line-stop-requires Inv-loop μ-loop
 line-stop-requires c κs = search needs
 
+line-end-requires : tie.Need-line-end-requires Inv-loop μ-loop
+line-end-requires c κs = search needs
+
+cast-n : tie.Need-cast-n Inv-loop μ-loop
+cast-n c = search needs
+
+-- the line end that is read is the line's
+ending : (c : tie.After-line-end Inv-loop μ-loop) → let l = c .before .before .loop in c .line-end .result ≡ lineAt (now (c .before .before .before .before .args .s)) (pointIn (l .l) (l .i) 1) .end
+ending c = read-end _ (c .before .before .loop .l) _ _ _ (c .before .line-stop .ensures) (c .line-end .ensures)
+
+cast-stop : tie.Need-cast-stop Inv-loop μ-loop
+cast-stop c =
+    let r = c .before in
+    let h = r .before .before .loop .inv .0 in
+    omega (arith, read-stop _ _ _ _ _ (r .before .line-stop .ensures) (r .line-end .ensures) h, h .inside .short)
+
+returns : tie.Need-returns Inv-loop μ-loop
+returns c =
+    let r = c .before in
+    let l = r .before .before .loop in
+    let s = now (r .before .before .before .before .args .s) in
+    let q = pointIn (l .l) (l .i) 1 in
+    let z = sym (ending r) ∙ c .if1 .taken in
+    let i = body-inside s q (l .inv .0 .inside) in
+    rw (r .before .line-stop .ensures)
+    (record {
+      stop = ap (λ (x : Point). x .index) (sym (last-end s q z) ∙ l .inv .1);
+      at = record { inside = record { short = i .short; within = i .within; narrow = omega arith; lined = i .lined; flat = refl }; first = refl };
+      tables = λ on. sym (l .inv .2 on) ∙ rows-last s q z on ∙ sym (heads-last s (startOf (record { line = l .l; at = l .i + length (restOf s q) })) on (stop-end s q ∙ z));
+    })
+
+-- the next line starts behind it
+next : (c : tie.After-line-end Inv-loop μ-loop) → let l = c .before .before .loop in
+    pointIn (l .l + 1) (c .before .line-stop .result + c .line-end .result) 1 ≡ after (now (c .before .before .before .before .args .s)) (pointIn (l .l) (l .i) 1)
+next c = read-next _ _ _ _ _ (c .before .line-stop .ensures) (c .line-end .ensures)
+
+onward : (c : tie.Else1 Inv-loop μ-loop) → let r = c .before in AtLine (now (r .before .before .before .before .args .s)) (pointIn (r .before .before .loop .l + 1) (r .before .line-stop .result + r .line-end .result) 1)
+onward c =
+    let r = c .before in
+    read-line _ _ _ _ _ (r .before .line-stop .ensures) (r .line-end .ensures) (r .before .before .loop .inv .0) (c .if1 .left)
+
+add-t : tie.Need-add-t Inv-loop μ-loop
+add-t c = let h = onward c .inside in omega (arith, h .within, h .short)
+
+add-l : tie.Need-add-l Inv-loop μ-loop
+add-l c = let h = onward c .inside in omega (arith, h .lined, h .within, h .short)
+
+blank-at-requires : tie.Need-blank-at-requires Inv-loop μ-loop
+blank-at-requires c κs = search needs
+
+-- whether it is blank
+tested : (c : tie.After-blank-at Inv-loop μ-loop) → let r = c .before .before in let l = r .before .before .loop in let s = now (r .before .before .before .before .args .s) in
+    blank kindOf (restOf s (after s (pointIn (l .l) (l .i) 1))) ≡ c .blank-at .result
+tested c =
+    let r = c .before .before in
+    let s = now (r .before .before .before .before .args .s) in
+    ap (λ (p : Point). blank kindOf (restOf s p)) (sym (next r)) ∙ sym (c .blank-at .ensures)
+
+cast-t14 : tie.Need-cast-t14 Inv-loop μ-loop
+cast-t14 c = let h = onward (c .before .before) .inside in omega (arith, h .within, h .short)
+
+cast-t15 : tie.Need-cast-t15 Inv-loop μ-loop
+cast-t15 c = let h = onward (c .before .before) .inside in omega (arith, h .within, h .short)
+
+returns-2 : tie.Need-returns-2 Inv-loop μ-loop
+returns-2 c =
+    let e = c .before .before in
+    let r = e .before in
+    let l = r .before .before .loop in
+    let s = now (r .before .before .before .before .args .s) in
+    let q = pointIn (l .l) (l .i) 1 in
+    let z : lineAt s q .end ≡ 0 → ⊥ = λ w. e .if1 .left (ending r ∙ w) in
+    let b = tested (c .before) ∙ c .if2 .taken in
+    record {
+      stop = r .before .line-stop .ensures ∙ ap (λ (x : Point). x .index) (sym (last-blank s q z b) ∙ l .inv .1);
+      at = onward e;
+      tables = λ on. sym (l .inv .2 on) ∙ rows-blank s q z b on ∙ ap (λ (p : Point). heads kindOf on (linesFrom s p)) (sym (next r));
+    }
+
 loop-less : tie.Need-loop-less Inv-loop μ-loop
 loop-less c =
-    let k = c .before .before .before .before in
-    let l = k .before .before .before .before .loop in
-    let m = next k in
-    let i = after-line _ (l .q) (m .1) (l .inv .0) .inside in
-    rw (m .0) (omega (arith, m .1, i .within))
+    let e = c .before .before in
+    let h = onward e .inside in
+    omega (arith, h .within, e .if1 .left, e .before .before .line-stop .ensures)
 
 loop-again : tie.Need-loop-again Inv-loop μ-loop
 loop-again c =
-    let k = c .before .before .before .before in
-    let l = k .before .before .before .before .loop in
-    let s = now (k .before .before .before .before .before .before .args .s) in
-    let m = next k in
-    let b = sym (rw (m .0) at (c .before .before .before .is-blank .ensures)) ∙ c .before .before .if1 .left in
-    let e = rw (m .0) at (c .line-stop .ensures) in
-    rw (m .0) (after-line s (l .q) (m .1) (l .inv .0) .inside, e, sym (last-row s (l .q) (m .1) b) ∙ l .inv .2, λ on. sym (rows-row s (l .q) (m .1) b on) ∙ l .inv .3 on)
+    let e = c .before .before in
+    let r = e .before in
+    let l = r .before .before .loop in
+    let s = now (r .before .before .before .before .args .s) in
+    let q = pointIn (l .l) (l .i) 1 in
+    let z : lineAt s q .end ≡ 0 → ⊥ = λ w. e .if1 .left (ending r ∙ w) in
+    let b = tested (c .before) ∙ c .if2 .left in
+    (onward e, ap (lastPoint s) (next r) ∙ sym (last-row s q z b) ∙ l .inv .1, λ on. ap (λ (p : Point). rows kindOf on (linesPast s p)) (next r) ∙ sym (rows-row s q z b on) ∙ l .inv .2 on)
 
 pub body-end-spec : {M : Type 1} → statement M
 body-end-spec =
@@ -124,15 +142,16 @@ body-end-spec =
     Inv-loop
     μ-loop
     loop-holds
-    line-behind-requires
-    enum-told
+    line-stop-requires
+    line-end-requires
+    cast-n
     cast-stop
     returns
-    enum-known-t
-    is-blank-requires
-    cast-t11
+    add-t
+    add-l
+    blank-at-requires
+    cast-t14
+    cast-t15
     returns-2
-    cast-line-stop
-    line-stop-requires
     loop-less
     loop-again)
