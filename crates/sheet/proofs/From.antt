@@ -104,13 +104,16 @@ module _ (s : List ℕ) (l i e n : ℕ) (f : e ≡ i + length (lineBody (drop i 
   abbrev from : Point
   from = pointIn l i 1
 
+  -- the line end is the line's
   pub read-end : n ≡ lineAt s from .end
   read-end = g ∙ ap (λ (j : ℕ). endAt (drop j s)) f ∙ end-past s from
 
+  -- the next line starts behind it
   pub read-next : pointIn (l + 1) (e + n) 1 ≡ after s from
   read-next = rw (read-end, f)
 
   module _ (h : AtLine s from) where
+    -- both are in the sheet
     pub read-stop : e ≤ length s
     read-stop = rw f (body-inside s from (h .inside) .within)
 
@@ -129,6 +132,7 @@ no-columns true false false false n t f g h = omega arith
 no-columns true false false true n false f g h = omega arith
 no-columns true false false true n true f g h = omega (arith, f refl, g)
 
+-- the same answers, with a line end
 some-columns : (a b r : Bool) (n : ℕ) (t : Bool) → (cond (r && a) (cond (not b && t) n 0) 0 ≡ 0 → ⊥)
     → (_≡_ {A = ℕ} (cond (not a) 3 (cond (false || b) 4 (cond false 5 (cond (not r) 6 (cond (not t) 7 0))))) 0) × (cond (r && a) (cond (not b && t) n 0) 0 ≡ n)
 some-columns true false true n true f = (refl, refl)
@@ -177,14 +181,15 @@ module _ (s : List ℕ) (on : Bool) (i d : ℕ) where
   pub columns-zero : 0 ≡ valueCount counted → 0 ≡ columnsOf s on i d
   columns-zero h = rw (row-counted counted on, ← h, and-false (permitted kindOf on counted))
 
-  -- an indent is not permitted
+  -- its indent is not permitted
   pub columns-row : permitted kindOf on counted ≡ false → 0 ≡ columnsOf s on i d
   columns-row h = rw h
 
+  -- the head line's indent is not
   pub columns-head : permitted kindOf on (lineBody (drop i s)) ≡ false → 0 ≡ columnsOf s on i d
   columns-head h = rw (h, and-false (isDelimiterRow kindOf on counted))
 
-  -- they are
+  -- the next line has values, and both indents are permitted
   pub columns-both : (valueCount counted ≡ 0 → ⊥) → permitted kindOf on counted ≡ true → permitted kindOf on (lineBody (drop i s)) ≡ true → columnsIf s i (valueCount counted) ≡ columnsOf s on i d
   columns-both z h k =
       let v : 0 < valueCount counted = omega (arith, z) in
