@@ -36,7 +36,7 @@ use Rattle.edit_map.specs.Raw.{rowPiece, delimiterPiece}
 use Rattle.edit_map.specs.Tables.{cells, rowInner, delimiterInner, firstPoint, cellEvents}
 use Rattle.edit_map.specs.Cells.{tail, tailMarks, cellOpened, rowTurn, markTurn}
 use Rattle.edit_map.specs.Spans.{opensAt, textNext, Reaches, ReachesAs}
-use Rattle.edit_map.specs.CellRows.{cellOf, valueOf, insideOf, textLeft, reachOf, stepFrom, stepOf, firstWithin, behind, startOf, stopOf, entryIn, stepPut, cellsAt, cellsEnd, cellsWrote}
+use Rattle.edit_map.specs.CellRows.{cellOf, valueOf, insideOf, textLeft, reachOf, stepFrom, stepOf, firstWithin, behind, startOf, stopOf, slotsIn, entryIn, stepPut, cellsAt, cellsEnd, cellsWrote}
 use Rattle.edit_map.proofs.Cells.{enters, row-ends, marks-end}
 use Rattle.edit_map.proofs.Spans.{text-ahead, spaceNext, Goes, goes-none, goes-ends, next}
 use Rattle.edit_map.proofs.CellTurns.{first-named, is-data, row-at, marks-at}
@@ -445,7 +445,7 @@ module _ (s : List ℕ) (part : Part) (l : ℕ) where
   -- a step is written
   pub record Onward (w : Within) : Type 0 where
     pub good : Good s part l (behind (stepOf s part w))
-    pub more : (zs : List Event) → length zs ≤ nowhere → makes s part l w zs ≡ makes s part l (behind (stepOf s part w)) (stepPut part l (stepOf s part w) zs)
+    pub more : (zs : List Event) → length zs ≤ nowhere → makes s part l w zs ≡ makes s part l (behind (stepOf s part w)) (stepPut part l (stepOf s part w) (slotsIn (stepOf s part w)) zs)
     pub long : w .at < stepOf s part w .end
 
   onward : (w : Within) → Good s part l w → Moves s part l w (stepOf s part w) → Onward w
@@ -464,9 +464,9 @@ module _ (s : List ℕ) (part : Part) (l : ℕ) where
       let n : v .slot ≡ w .slot + length es = count (x .opens) (x .enters) (x .leaves) (x .slot) a b c (entryIn l x) d f ∙ ap (λ (j : ℕ). j + length es) k in
       let sum : w .slot + length (leftAt s part l w) ≡ v .slot + length rest = omega (arith, n, ap length q, length-append es rest) in
       let few : v .slot ≤ x .slot + 6 = at-most (x .opens) (x .enters) (x .leaves) (x .slot) in
-      let put : (zs : List Event) → length zs ≤ nowhere → stepPut part l x zs ≡ wrote (w .slot) es zs =
+      let put : (zs : List Event) → length zs ≤ nowhere → stepPut part l x (slotsIn x) zs ≡ wrote (w .slot) es zs =
       λ zs g. six (x .opens) (x .enters) (x .leaves) (x .slot) a b c (entryIn l x) d f zs g ∙ ap (λ (j : ℕ). wrote j es zs) k in
-      let all : (zs : List Event) → length zs ≤ nowhere → wrote (w .slot) (leftAt s part l w) zs ≡ wrote (v .slot) rest (stepPut part l x zs) =
+      let all : (zs : List Event) → length zs ≤ nowhere → wrote (w .slot) (leftAt s part l w) zs ≡ wrote (v .slot) rest (stepPut part l x (slotsIn x) zs) =
       λ zs g. ap (λ (r : List Event). wrote (w .slot) r zs) q ∙ wrote-append (w .slot) es rest zs ∙ (λ j. wrote (sym n j) rest (sym (put zs g) j)) in
       record {
         good = (m .inside, omega (arith, few, k, h .1, m .long));

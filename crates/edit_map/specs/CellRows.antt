@@ -119,9 +119,8 @@ abbrev pub entryIn : ℕ → Step → Event
 entryIn l x = record { kind = 1; name = x .name; line = l; column = x .column; index = x .at; vs = 0; link = x .link }
 
 -- the slots with a step's events: a cell is left and one is entered, a text or value is entered, the piece is entered and left, the text or value is left
-abbrev pub stepPut : Part → ℕ → Step → List Event → List Event
-stepPut part l x zs =
-    let k = slotsIn x in
+abbrev pub stepPut : Part → ℕ → Step → Slots → List Event → List Event
+stepPut part l x k zs =
     let a = set zs (k .left) (leave (cellOf part) (startOf l x)) in
     let b = set a (k .entered) (enter (cellOf part) (startOf l x)) in
     let c = set b (k .opened) (enter (valueOf part) (startOf l x)) in

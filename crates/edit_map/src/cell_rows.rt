@@ -1,4 +1,5 @@
 // The cells of a row with what stands in them, written to slots.
+use crate::cell_steps::Slots;
 use crate::cell_steps::Step;
 use crate::cell_steps::cell_closed;
 use crate::cell_steps::cell_entered;
@@ -9,7 +10,6 @@ use crate::cell_steps::mark_part;
 use crate::cell_steps::mark_step;
 use crate::cell_steps::piece_entered;
 use crate::cell_steps::piece_left;
-use crate::cell_steps::row_stop;
 use crate::cell_steps::slots_of;
 use crate::cell_steps::text_part;
 use crate::cell_steps::text_step;
@@ -18,22 +18,21 @@ use crate::cell_steps::value_left;
 use crate::cell_steps::within_after;
 use crate::cell_steps::within_first;
 use gfm_table::rows::Reached;
+use gfm_table::rows::row_stop;
 use gfm_table::stream::Part;
 use tokenizer::event::Event;
 use tokenizer::slots::put;
 ghost use mathlib.Core.Path.{_≡_};
-ghost use Prim.Native.Nat.{_≤_, _<_};
+ghost use Prim.Native.Nat.{_≤_};
 ghost use Rattle.tokenizer.specs.Moves.{Inside};
 ghost use Rattle.gfm_table.specs.declared.stream.Part.the-variants.{Delimiter, Body};
 ghost use Rattle.gfm_table.specs.Places.{pointIn};
 ghost use Rattle.edit_map.specs.CellRows.{stepPut, cellsEnd, cellsWrote};
 
-// The events of a step are written.
-pub fn put_step(slots: &mut [Event], part: Part, line: u32, x: Step)
-    requires { ⌜ x .slot < 1000000000000 ⌝ }
-    ensures { λ _. ⌜ now (slots .exit) ≡ stepPut part line x (now (slots .entry)) ⌝ }
+// The events of a step are written to their slots.
+pub fn put_step(slots: &mut [Event], part: Part, line: u32, x: Step, k: Slots)
+    ensures { λ _. ⌜ now (slots .exit) ≡ stepPut part line x k (now (slots .entry)) ⌝ }
 {
-    let k = slots_of(x);
     put(slots, k.left, cell_left(part, line, x));
     put(slots, k.entered, cell_entered(part, line, x));
     put(slots, k.opened, value_entered(part, line, x));
@@ -53,7 +52,8 @@ pub fn write_text_cells(s: &[u8], line: u32, from: u32, slots: &mut [Event], to:
     let mut w = within_first(from, to);
     while w.at < end {
         let x = text_step(s, w);
-        put_step(slots, part, line, x);
+        let k = slots_of(x);
+        put_step(slots, part, line, x, k);
         w = within_after(x);
     }
     put(slots, w.slot, cell_closed(part, line, w));
@@ -71,7 +71,8 @@ pub fn write_mark_cells(s: &[u8], line: u32, from: u32, slots: &mut [Event], to:
     let mut w = within_first(from, to);
     while w.at < end {
         let x = mark_step(s, w);
-        put_step(slots, part, line, x);
+        let k = slots_of(x);
+        put_step(slots, part, line, x, k);
         w = within_after(x);
     }
     put(slots, w.slot, cell_closed(part, line, w));

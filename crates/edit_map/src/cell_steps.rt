@@ -13,7 +13,6 @@ use gfm_table::stream::Part;
 use tokenizer::event::Event;
 use tokenizer::event::Name;
 use tokenizer::event::Point;
-use tokenizer::lines::line_stop;
 use tokenizer::slots::past_if;
 use tokenizer::slots::slot_if;
 ghost use mathlib.Core.Path.{_≡_};
@@ -210,14 +209,6 @@ pub fn slots_of(x: Step) -> Slots
         closed: slot_if(x.leaves, c + 2),
         next: past_if(x.leaves, c + 2),
     }
-}
-
-// Where the bytes of a row end.
-pub fn row_stop(s: &[u8], from: u32) -> u32
-    requires { ⌜ (length (now s) ≤ 65536) × (from ≤ length (now s)) ⌝ }
-    ensures { λ r. ⌜ r ≡ from + length (lineBody (drop from (now (s .entry)))) ⌝ }
-{
-    line_stop(s, from as usize) as u32
 }
 
 // Before the first step of a row whose first cell is entered in a slot.

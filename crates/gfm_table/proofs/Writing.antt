@@ -22,6 +22,10 @@ use Rattle.gfm_table.specs.Stream.{piecesOf}
 use Rattle.gfm_table.specs.Places.{pointIn, nextAt, rowEnd, rowWrote}
 use Rattle.gfm_table.proofs.Coming.{no-pieces, Piecing, Next, none, some, next-piece}
 
+-- before the first piece
+abbrev pub begun : ℕ → ℕ → Reached
+begun i k = record { at = i; column = 1; slot = k }
+
 module _ (s : List ℕ) (t : Part) (l : ℕ) where
   -- the point that the writing has come to, and the next piece there
   abbrev pub pointAt : Reached → Point

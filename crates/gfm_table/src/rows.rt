@@ -1,7 +1,6 @@
 // The pieces of a row by the places of its bytes, one at a time, and their events written to lent slots.
 use crate::pieces::fillers_end;
 use crate::pieces::text_end;
-use crate::stream::Part;
 use tokenizer::event::Event;
 use tokenizer::event::Name;
 use tokenizer::event::Point;
@@ -106,17 +105,6 @@ pub fn marks_at(s: &[u8], at: u32, column: u32) -> Placed
     }
 }
 
-// The next piece of any row.
-pub fn next_at(s: &[u8], part: Part, at: u32, column: u32) -> Placed
-    requires { ⌜ (length (now s) ≤ 65536) × (at ≤ length (now s)) × (column ≤ 4 * at + 1) ⌝ }
-    ensures { λ r. ⌜ r ≡ nextAt at column (piecesOf part (lineBody (drop at (now (s .entry))))) ⌝ }
-{
-    match part {
-        Part::Delimiter => marks_at(s, at, column),
-        Part::Head | Part::Body => text_at(s, at, column),
-    }
-}
-
 // Where the writing of a row's pieces stands: the place, the column there, and the slot of the next event.
 pub struct Reached {
     pub at: u32,
@@ -193,22 +181,31 @@ pub fn row_after(x: Reached, p: Placed) -> Reached
     }
 }
 
-// The events of a row's pieces, from its first byte, into the slots from a place on.
-pub fn write_row(
-    s: &[u8],
-    part: Part,
-    line: u32,
-    from: u32,
-    slots: &mut [Event],
-    to: usize,
-) -> Reached
+// The events of the pieces of a head line or a body row, from its first byte, into the slots from a place on.
+pub fn write_text(s: &[u8], line: u32, from: u32, slots: &mut [Event], to: usize) -> Reached
     requires { ⌜ Inside (now s) (pointIn line from 1) × (to ≤ 4294967296) ⌝ }
-    ensures { λ r. ⌜ (r ≡ rowEnd (now (s .entry)) part (pointIn line from 1) to) × (now (slots .exit) ≡ rowWrote (now (s .entry)) part (pointIn line from 1) to (now (slots .entry))) ⌝ }
+    ensures { λ r. ⌜ (r ≡ rowEnd (now (s .entry)) Body (pointIn line from 1) to) × (now (slots .exit) ≡ rowWrote (now (s .entry)) Body (pointIn line from 1) to (now (slots .entry))) ⌝ }
 {
     let end = row_stop(s, from);
     let mut x = row_start(from, to);
     while x.at < end {
-        let p = next_at(s, part, x.at, x.column);
+        let p = text_at(s, x.at, x.column);
+        put(slots, x.slot, entry_of(line, x, p));
+        put(slots, exit_slot(x), exit_of(line, p));
+        x = row_after(x, p);
+    }
+    x
+}
+
+// The same of a delimiter row.
+pub fn write_marks(s: &[u8], line: u32, from: u32, slots: &mut [Event], to: usize) -> Reached
+    requires { ⌜ Inside (now s) (pointIn line from 1) × (to ≤ 4294967296) ⌝ }
+    ensures { λ r. ⌜ (r ≡ rowEnd (now (s .entry)) Delimiter (pointIn line from 1) to) × (now (slots .exit) ≡ rowWrote (now (s .entry)) Delimiter (pointIn line from 1) to (now (slots .entry))) ⌝ }
+{
+    let end = row_stop(s, from);
+    let mut x = row_start(from, to);
+    while x.at < end {
+        let p = marks_at(s, x.at, x.column);
         put(slots, x.slot, entry_of(line, x, p));
         put(slots, exit_slot(x), exit_of(line, p));
         x = row_after(x, p);

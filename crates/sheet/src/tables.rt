@@ -1,6 +1,9 @@
 // The raw events of a sheet's tables, written to slots row by row, by places.
+use edit_map::cell_steps::mark_part;
+use edit_map::cell_steps::text_part;
 use gfm_table::rows::Reached;
-use gfm_table::rows::write_row;
+use gfm_table::rows::write_marks;
+use gfm_table::rows::write_text;
 use gfm_table::stream::Part;
 use gfm_table::stream::row_name;
 use tokenizer::event::Event;
@@ -15,6 +18,7 @@ ghost use Rattle.tokenizer.specs.Events.{LineEnding, GfmTableHead, enter, leave
 ghost use Rattle.tokenizer.specs.Slots.{wrote};
 ghost use Rattle.tokenizer.specs.Moves.{Inside, lineAt, after};
 ghost use Rattle.tokenizer.specs.Places.{endOf};
+ghost use Rattle.gfm_table.specs.declared.stream.Part.the-variants.{Delimiter, Body};
 ghost use Rattle.gfm_table.specs.Stream.{nameOf};
 ghost use Rattle.gfm_table.specs.Places.{pointIn};
 ghost use Rattle.edit_map.specs.Tables.{rawTable};
@@ -110,27 +114,6 @@ pub fn head_exit(w: Written) -> Event
     exit_at(Name::GfmTableHead, w)
 }
 
-// The part of a table that its head line is.
-pub fn head_part() -> Part
-    ensures { λ r. ⌜ r ≡ Part.Head ⌝ }
-{
-    Part::Head
-}
-
-// The part that its delimiter row is.
-pub fn delimiter_part() -> Part
-    ensures { λ r. ⌜ r ≡ Part.Delimiter ⌝ }
-{
-    Part::Delimiter
-}
-
-// The part that each body row is.
-pub fn body_part() -> Part
-    ensures { λ r. ⌜ r ≡ Part.Body ⌝ }
-{
-    Part::Body
-}
-
 // The slot behind a slot.
 pub fn behind(to: usize) -> usize
     requires { ⌜ to < 1000000000000 ⌝ }
@@ -178,36 +161,56 @@ pub fn below(s: &[u8], w: Written) -> Written
     }
 }
 
-// A row: its entry, its pieces and its exit.
-pub fn raw_row(
-    s: &[u8],
-    part: Part,
-    line: u32,
-    from: u32,
-    slots: &mut [Event],
-    to: usize,
-) -> Written
-    requires { ⌜ Inside (now s) (pointIn line from 1) × Few to (rowEvents (now s) part (pointIn line from 1)) ⌝ }
-    ensures { λ r. ⌜ (r ≡ writtenAt (endOf (here (now (s .entry)) (pointIn line from 1))) (to + length (rowEvents (now (s .entry)) part (pointIn line from 1))))
-        × (now (slots .exit) ≡ wrote to (rowEvents (now (s .entry)) part (pointIn line from 1)) (now (slots .entry))) ⌝ }
+// A head line or a body row: its entry, its pieces and its exit.
+pub fn raw_text_row(s: &[u8], line: u32, from: u32, slots: &mut [Event], to: usize) -> Written
+    requires { ⌜ Inside (now s) (pointIn line from 1) × Few to (rowEvents (now s) Body (pointIn line from 1)) ⌝ }
+    ensures { λ r. ⌜ (r ≡ writtenAt (endOf (here (now (s .entry)) (pointIn line from 1))) (to + length (rowEvents (now (s .entry)) Body (pointIn line from 1))))
+        × (now (slots .exit) ≡ wrote to (rowEvents (now (s .entry)) Body (pointIn line from 1)) (now (slots .entry))) ⌝ }
 {
+    let part = text_part();
     put(slots, to, row_entry(part, line, from));
-    let r = write_row(s, part, line, from, slots, behind(to));
+    let r = write_text(s, line, from, slots, behind(to));
     let e = row_end(line, r);
     put(slots, e.slot, row_exit(part, e));
     one_more(e)
 }
 
-// The line end behind a row, and the row of the next line.
-pub fn raw_next(s: &[u8], part: Part, w: Written, slots: &mut [Event]) -> Written
-    requires { ⌜ AtEnd (now s) w × (lineAt (now s) (pointAt w) .end ≡ 0 → ⊥) × Few (w .slot) (nextEvents (now s) part (pointAt w)) ⌝ }
-    ensures { λ r. ⌜ (r ≡ writtenAt (endOf (here (now (s .entry)) (after (now (s .entry)) (pointAt w)))) (w .slot + length (nextEvents (now (s .entry)) part (pointAt w))))
-        × (now (slots .exit) ≡ wrote (w .slot) (nextEvents (now (s .entry)) part (pointAt w)) (now (slots .entry))) ⌝ }
+// A delimiter row: its entry, its pieces and its exit.
+pub fn raw_mark_row(s: &[u8], line: u32, from: u32, slots: &mut [Event], to: usize) -> Written
+    requires { ⌜ Inside (now s) (pointIn line from 1) × Few to (rowEvents (now s) Delimiter (pointIn line from 1)) ⌝ }
+    ensures { λ r. ⌜ (r ≡ writtenAt (endOf (here (now (s .entry)) (pointIn line from 1))) (to + length (rowEvents (now (s .entry)) Delimiter (pointIn line from 1))))
+        × (now (slots .exit) ≡ wrote to (rowEvents (now (s .entry)) Delimiter (pointIn line from 1)) (now (slots .entry))) ⌝ }
+{
+    let part = mark_part();
+    put(slots, to, row_entry(part, line, from));
+    let r = write_marks(s, line, from, slots, behind(to));
+    let e = row_end(line, r);
+    put(slots, e.slot, row_exit(part, e));
+    one_more(e)
+}
+
+// The line end behind a row, and the body row of the next line.
+pub fn raw_text_next(s: &[u8], w: Written, slots: &mut [Event]) -> Written
+    requires { ⌜ AtEnd (now s) w × (lineAt (now s) (pointAt w) .end ≡ 0 → ⊥) × Few (w .slot) (nextEvents (now s) Body (pointAt w)) ⌝ }
+    ensures { λ r. ⌜ (r ≡ writtenAt (endOf (here (now (s .entry)) (after (now (s .entry)) (pointAt w)))) (w .slot + length (nextEvents (now (s .entry)) Body (pointAt w))))
+        × (now (slots .exit) ≡ wrote (w .slot) (nextEvents (now (s .entry)) Body (pointAt w)) (now (slots .entry))) ⌝ }
 {
     let b = below(s, w);
     put(slots, w.slot, break_entry(w));
     put(slots, behind(w.slot), break_exit(b));
-    raw_row(s, part, b.line, b.at, slots, b.slot)
+    raw_text_row(s, b.line, b.at, slots, b.slot)
+}
+
+// The line end behind a head line, and the delimiter row of the next line.
+pub fn raw_mark_next(s: &[u8], w: Written, slots: &mut [Event]) -> Written
+    requires { ⌜ AtEnd (now s) w × (lineAt (now s) (pointAt w) .end ≡ 0 → ⊥) × Few (w .slot) (nextEvents (now s) Delimiter (pointAt w)) ⌝ }
+    ensures { λ r. ⌜ (r ≡ writtenAt (endOf (here (now (s .entry)) (after (now (s .entry)) (pointAt w)))) (w .slot + length (nextEvents (now (s .entry)) Delimiter (pointAt w))))
+        × (now (slots .exit) ≡ wrote (w .slot) (nextEvents (now (s .entry)) Delimiter (pointAt w)) (now (slots .entry))) ⌝ }
+{
+    let b = below(s, w);
+    put(slots, w.slot, break_entry(w));
+    put(slots, behind(w.slot), break_exit(b));
+    raw_mark_row(s, b.line, b.at, slots, b.slot)
 }
 
 // A head: its line, the line end, its delimiter row.
@@ -217,8 +220,8 @@ pub fn raw_head(s: &[u8], line: u32, from: u32, slots: &mut [Event], to: usize) 
         × (now (slots .exit) ≡ wrote to (headsEvents (now (s .entry)) (pointIn line from 1)) (now (slots .entry))) ⌝ }
 {
     put(slots, to, head_entry(line, from));
-    let h = raw_row(s, head_part(), line, from, slots, behind(to));
-    let d = raw_next(s, delimiter_part(), h, slots);
+    let h = raw_text_row(s, line, from, slots, behind(to));
+    let d = raw_mark_next(s, h, slots);
     put(slots, d.slot, head_exit(d));
     one_more(d)
 }
@@ -231,7 +234,7 @@ pub fn raw_body(s: &[u8], w: Written, stop: u32, slots: &mut [Event]) -> Written
 {
     let mut x = w;
     while x.at < stop {
-        let next = raw_next(s, body_part(), x, slots);
+        let next = raw_text_next(s, x, slots);
         x = next;
     }
     x
