@@ -14,8 +14,6 @@ pub mod ResultRows
 pub mod ResultBodies
 pub mod Doubling
 pub mod Tabling
-pub mod WriteTypes
-pub mod Telling
 pub mod Sheets
 pub mod Lists
 pub mod Alike

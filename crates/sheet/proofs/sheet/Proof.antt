@@ -7,8 +7,7 @@ use Rattle.sheet.specs.Aligning.{zeroedFrom}
 use Rattle.sheet.specs.Writing.{tablesRead, countsOf, alignedFrom}
 use Rattle.sheet.specs.Calls.{sheetOf, sheetRaw, sheetResults, sheetAligned, judgeOf}
 use Rattle.tokenizer.proofs.Types.{Ev}
-use Rattle.sheet.proofs.WriteTypes.{Ct, ct, ct-ty}
-use Rattle.sheet.proofs.Types.{Sh, sh, sh-ty, Le, le, le-ty, le-raw, le-results, le-aligned, Ve, ve, ve-ty, ve-answer, ve-kept}
+use Rattle.sheet.proofs.Types.{Ct, ct, ct-ty, Sh, sh, sh-ty, Le, le, le-ty, le-raw, le-results, le-aligned, Ve, ve, ve-ty, ve-answer, ve-kept}
 use Rattle.sheet.proofs.Sheets.{right}
 use Rattle.sheet.proofs.write.write_tables as write-write-tables
 use Rattle.sheet.proofs.write.write_tables.Symbol as write-write-tables-def

@@ -13,9 +13,9 @@ use Rattle.sheet.specs.Spans.{startOf, headOf, lastPoint, lastStop, Come
 use Rattle.sheet.specs.Placing.{writtenAt, Few, tableAt}
 use Rattle.sheet.specs.Aligning.{alignmentsAt, filledIf}
 use Rattle.sheet.specs.Writing.{tablesRead, countsOf, oneMore, alignedFrom}
-use Rattle.sheet.proofs.WriteTypes.{Sn, sn, sn-ty, sn-found, sn-line, sn-at, sn-stop, Ct, ct, ct-ty, ct-raw, ct-results, Tb, tb, tb-ty, tb-next, tb-counts, Wt, wt, wt-ty, wt-slot}
+use Rattle.sheet.proofs.Types.{Sn, sn, sn-ty, sn-line, sn-at, sn-stop, Ct, ct, ct-ty, ct-raw, ct-results, Tb, tb, tb-ty, tb-next, tb-counts, Wn, wn, wn-ty, wn-slot}
 use Rattle.tokenizer.proofs.Types.{Ev}
-use Rattle.sheet.proofs.Telling.{calls-told}
+use Rattle.edit_map.proofs.EditTold.{calls-told}
 use Rattle.sheet.proofs.Tabling as TB
 use Rattle.sheet.proofs.Tabling.{Facts, Told, Next, next, begins-good, begins-told, short, raw-few, resolved-few, cells-are, aligned-few, tables-few, delimiter-within, goes-good, goes-told, fewer, stops}
 use Rattle.sheet.proofs.write.first_table as write-first-table
@@ -135,16 +135,16 @@ module _ {M : Type 1} (𝓤 : URA M) (H : Heap 𝓤) (A : Atoms 𝓤) (W : Given
       Λ = 𝓣 .Λ
 
       abbrev En : Env 𝓤 H
-      En = (ct-ty, l₀) ∷ (sliceTy (tyRef (named 0) imm (pointee (u8 .written))), l₁) ∷ (tyBool, l₂) ∷ (sliceTy (tyRef (named 1) mut (pointee (Ev .written))), l₃) ∷ (sliceTy (tyRef (named 2) mut (pointee (Ev .written))), l₄) ∷ (sliceTy (tyRef (named 3) mut (pointee (u8 .written))), l₅) ∷ (tb-ty, l₆) ∷ (wt-ty, l₇) ∷ (wt-ty, l₈) ∷ (tb-ty, l₉) ∷ (tyBool, l₁₀) ∷ (tyRef erased mut (pointee (Ev .written)), l₁₁) ∷ (sliceTy (tyRef erased mut (pointee (Ev .written))), l₁₂) ∷ (tyRef erased mut (pointee (Ev .written)), l₁₃) ∷ (sliceTy (tyRef erased mut (pointee (Ev .written))), l₁₄) ∷ (tyUnit, l₁₅) ∷ (tyRef erased mut (pointee (u8 .written)), l₁₆) ∷ (sliceTy (tyRef erased mut (pointee (u8 .written))), l₁₇) ∷ []
+      En = (ct-ty, l₀) ∷ (sliceTy (tyRef (named 0) imm (pointee (u8 .written))), l₁) ∷ (tyBool, l₂) ∷ (sliceTy (tyRef (named 1) mut (pointee (Ev .written))), l₃) ∷ (sliceTy (tyRef (named 2) mut (pointee (Ev .written))), l₄) ∷ (sliceTy (tyRef (named 3) mut (pointee (u8 .written))), l₅) ∷ (tb-ty, l₆) ∷ (wn-ty, l₇) ∷ (wn-ty, l₈) ∷ (tb-ty, l₉) ∷ (tyBool, l₁₀) ∷ (tyRef erased mut (pointee (Ev .written)), l₁₁) ∷ (sliceTy (tyRef erased mut (pointee (Ev .written))), l₁₂) ∷ (tyRef erased mut (pointee (Ev .written)), l₁₃) ∷ (sliceTy (tyRef erased mut (pointee (Ev .written))), l₁₄) ∷ (tyUnit, l₁₅) ∷ (tyRef erased mut (pointee (u8 .written)), l₁₆) ∷ (sliceTy (tyRef erased mut (pointee (u8 .written))), l₁₇) ∷ []
 
       -- the end of the body, by itself: there are fewer names there, and the check is quicker
-      leaves : (zs′ : List (Ev .Denot)) (zs″ : List (Ev .Denot)) (zs‴ : List (u8 .Denot)) (zs′-len : length zs′ ≡ length ys) (zs″-len : length zs″ ≡ length ms) (zs‴-len : length zs‴ ≡ length ks) (r : Ct .Denot) (r-ok : Is Ct r (vals ct r)) (said : (r ≡ countsOf (tablesRead st on)) × ((zs′ ≡ wrote 0 (rawOf (tablesRead st on)) ys) × ((zs″ ≡ wrote 0 (resolvedOf (tablesRead st on)) ms) × (zs‴ ≡ alignedFrom 0 (tablesRead st on) ks)))) → Sq W (‵ (Shr u8 κ b o (length st) γ st) ∷ ‵ (flft κ q) ∷ ‵ (Mut Ev κ′ b′ o′ (length ys) γ′ zs′) ∷ ‵ (flft κ′ q′) ∷ ‵ (Mut Ev κ″ b″ o″ (length ms) γ″ zs″) ∷ ‵ (flft κ″ q″) ∷ ‵ (Mut u8 κ‴ b‴ o‴ (length ks) γ‴ zs‴) ∷ ‵ (flft κ‴ q‴) ∷ ‵ (froom (sliceTy (tyRef erased mut (pointee (u8 .written)))) l₁₇ 0) ∷ ‵ (fdies (sliceTy (tyRef erased mut (pointee (u8 .written)))) l₁₇) ∷ ‵ (froom (tyRef erased mut (pointee (u8 .written))) l₁₆ 0) ∷ ‵ (fdies (tyRef erased mut (pointee (u8 .written))) l₁₆) ∷ ‵ (froom tyUnit l₁₅ 0) ∷ ‵ (fdies tyUnit l₁₅) ∷ ‵ (froom (sliceTy (tyRef erased mut (pointee (Ev .written)))) l₁₄ 0) ∷ ‵ (fdies (sliceTy (tyRef erased mut (pointee (Ev .written)))) l₁₄) ∷ ‵ (froom (tyRef erased mut (pointee (Ev .written))) l₁₃ 0) ∷ ‵ (fdies (tyRef erased mut (pointee (Ev .written))) l₁₃) ∷ ‵ (froom (sliceTy (tyRef erased mut (pointee (Ev .written)))) l₁₂ 0) ∷ ‵ (fdies (sliceTy (tyRef erased mut (pointee (Ev .written)))) l₁₂) ∷ ‵ (froom (tyRef erased mut (pointee (Ev .written))) l₁₁ 0) ∷ ‵ (fdies (tyRef erased mut (pointee (Ev .written))) l₁₁) ∷ ‵ (froom tyBool l₁₀ 0) ∷ ‵ (fdies tyBool l₁₀) ∷ ‵ (froom tb-ty l₉ 0) ∷ ‵ (fdies tb-ty l₉) ∷ ‵ (froom wt-ty l₈ 0) ∷ ‵ (fdies wt-ty l₈) ∷ ‵ (froom wt-ty l₇ 0) ∷ ‵ (fdies wt-ty l₇) ∷ ‵ (froom tb-ty l₆ 0) ∷ ‵ (fdies tb-ty l₆) ∷ ‵ (froom (sliceTy (tyRef (named 3) mut (pointee (u8 .written)))) l₅ 0) ∷ ‵ (fdies (sliceTy (tyRef (named 3) mut (pointee (u8 .written)))) l₅) ∷ ‵ (froom (sliceTy (tyRef (named 2) mut (pointee (Ev .written)))) l₄ 0) ∷ ‵ (fdies (sliceTy (tyRef (named 2) mut (pointee (Ev .written)))) l₄) ∷ ‵ (froom (sliceTy (tyRef (named 1) mut (pointee (Ev .written)))) l₃ 0) ∷ ‵ (fdies (sliceTy (tyRef (named 1) mut (pointee (Ev .written)))) l₃) ∷ ‵ (froom tyBool l₂ 0) ∷ ‵ (fdies tyBool l₂) ∷ ‵ (froom (sliceTy (tyRef (named 0) imm (pointee (u8 .written)))) l₁ 0) ∷ ‵ (fdies (sliceTy (tyRef (named 0) imm (pointee (u8 .written)))) l₁) ∷ ‵ (fat fullShare ct-ty l₀ 0 (ct .val r)) ∷ ‵ (fdies ct-ty l₀) ∷ []) (runs C Λ En code-mir.t-4 (atRet En Post))
+      leaves : (zs′ : List (Ev .Denot)) (zs″ : List (Ev .Denot)) (zs‴ : List (u8 .Denot)) (zs′-len : length zs′ ≡ length ys) (zs″-len : length zs″ ≡ length ms) (zs‴-len : length zs‴ ≡ length ks) (r : Ct .Denot) (r-ok : Is Ct r (vals ct r)) (said : (r ≡ countsOf (tablesRead st on)) × ((zs′ ≡ wrote 0 (rawOf (tablesRead st on)) ys) × ((zs″ ≡ wrote 0 (resolvedOf (tablesRead st on)) ms) × (zs‴ ≡ alignedFrom 0 (tablesRead st on) ks)))) → Sq W (‵ (Shr u8 κ b o (length st) γ st) ∷ ‵ (flft κ q) ∷ ‵ (Mut Ev κ′ b′ o′ (length ys) γ′ zs′) ∷ ‵ (flft κ′ q′) ∷ ‵ (Mut Ev κ″ b″ o″ (length ms) γ″ zs″) ∷ ‵ (flft κ″ q″) ∷ ‵ (Mut u8 κ‴ b‴ o‴ (length ks) γ‴ zs‴) ∷ ‵ (flft κ‴ q‴) ∷ ‵ (froom (sliceTy (tyRef erased mut (pointee (u8 .written)))) l₁₇ 0) ∷ ‵ (fdies (sliceTy (tyRef erased mut (pointee (u8 .written)))) l₁₇) ∷ ‵ (froom (tyRef erased mut (pointee (u8 .written))) l₁₆ 0) ∷ ‵ (fdies (tyRef erased mut (pointee (u8 .written))) l₁₆) ∷ ‵ (froom tyUnit l₁₅ 0) ∷ ‵ (fdies tyUnit l₁₅) ∷ ‵ (froom (sliceTy (tyRef erased mut (pointee (Ev .written)))) l₁₄ 0) ∷ ‵ (fdies (sliceTy (tyRef erased mut (pointee (Ev .written)))) l₁₄) ∷ ‵ (froom (tyRef erased mut (pointee (Ev .written))) l₁₃ 0) ∷ ‵ (fdies (tyRef erased mut (pointee (Ev .written))) l₁₃) ∷ ‵ (froom (sliceTy (tyRef erased mut (pointee (Ev .written)))) l₁₂ 0) ∷ ‵ (fdies (sliceTy (tyRef erased mut (pointee (Ev .written)))) l₁₂) ∷ ‵ (froom (tyRef erased mut (pointee (Ev .written))) l₁₁ 0) ∷ ‵ (fdies (tyRef erased mut (pointee (Ev .written))) l₁₁) ∷ ‵ (froom tyBool l₁₀ 0) ∷ ‵ (fdies tyBool l₁₀) ∷ ‵ (froom tb-ty l₉ 0) ∷ ‵ (fdies tb-ty l₉) ∷ ‵ (froom wn-ty l₈ 0) ∷ ‵ (fdies wn-ty l₈) ∷ ‵ (froom wn-ty l₇ 0) ∷ ‵ (fdies wn-ty l₇) ∷ ‵ (froom tb-ty l₆ 0) ∷ ‵ (fdies tb-ty l₆) ∷ ‵ (froom (sliceTy (tyRef (named 3) mut (pointee (u8 .written)))) l₅ 0) ∷ ‵ (fdies (sliceTy (tyRef (named 3) mut (pointee (u8 .written)))) l₅) ∷ ‵ (froom (sliceTy (tyRef (named 2) mut (pointee (Ev .written)))) l₄ 0) ∷ ‵ (fdies (sliceTy (tyRef (named 2) mut (pointee (Ev .written)))) l₄) ∷ ‵ (froom (sliceTy (tyRef (named 1) mut (pointee (Ev .written)))) l₃ 0) ∷ ‵ (fdies (sliceTy (tyRef (named 1) mut (pointee (Ev .written)))) l₃) ∷ ‵ (froom tyBool l₂ 0) ∷ ‵ (fdies tyBool l₂) ∷ ‵ (froom (sliceTy (tyRef (named 0) imm (pointee (u8 .written)))) l₁ 0) ∷ ‵ (fdies (sliceTy (tyRef (named 0) imm (pointee (u8 .written)))) l₁) ∷ ‵ (fat fullShare ct-ty l₀ 0 (ct .val r)) ∷ ‵ (fdies ct-ty l₀) ∷ []) (runs C Λ En code-mir.t-4 (atRet En Post))
       leaves zs′ zs″ zs‴ zs′-len zs″-len zs‴-len r r-ok said =
           returns ! (look ! 42 refl) $ forget ! 42 refl $ move ! (42 ∷ 43 ∷ []) $ free1 ! $ move ! (40 ∷ 41 ∷ []) $ free1 ! $ move ! (38 ∷ 39 ∷ []) $ free1 ! $ move ! (36 ∷ 37 ∷ []) $ free1 ! $ move ! (34 ∷ 35 ∷ []) $ free1 ! $ move ! (32 ∷ 33 ∷ []) $ free1 ! $ move ! (30 ∷ 31 ∷ []) $ free1 ! $ move ! (28 ∷ 29 ∷ []) $ free1 ! $ move ! (26 ∷ 27 ∷ []) $ free1 ! $ move ! (24 ∷ 25 ∷ []) $ free1 ! $ move ! (22 ∷ 23 ∷ []) $ free1 ! $ move ! (20 ∷ 21 ∷ []) $ free1 ! $ move ! (18 ∷ 19 ∷ []) $ free1 ! $ move ! (16 ∷ 17 ∷ []) $ free1 ! $ move ! (14 ∷ 15 ∷ []) $ free1 ! $ move ! (12 ∷ 13 ∷ []) $ free1 ! $ move ! (10 ∷ 11 ∷ []) $ free1 ! $ move ! (8 ∷ 9 ∷ []) $ free1 ! $ free0 ! $ by ! (exits zs′ zs″ zs‴ zs′-len zs″-len zs‴-len r r-ok said)
 
       -- the invariant: what the slices own and their tokens, and the locals
       abbrev At : Turn → List (Item 𝓤)
-      At t = ‵ (Shr u8 κ b o (length st) γ st) ∷ ‵ (flft κ q) ∷ ‵ (Mut Ev κ′ b′ o′ (length ys) γ′ (t .zs)) ∷ ‵ (flft κ′ q′) ∷ ‵ (Mut Ev κ″ b″ o″ (length ms) γ″ (t .ws)) ∷ ‵ (flft κ″ q″) ∷ ‵ (Mut u8 κ‴ b‴ o‴ (length ks) γ‴ (t .ns)) ∷ ‵ (flft κ‴ q‴) ∷ ‵ (froom (sliceTy (tyRef erased mut (pointee (u8 .written)))) l₁₇ 0) ∷ ‵ (fdies (sliceTy (tyRef erased mut (pointee (u8 .written)))) l₁₇) ∷ ‵ (froom (tyRef erased mut (pointee (u8 .written))) l₁₆ 0) ∷ ‵ (fdies (tyRef erased mut (pointee (u8 .written))) l₁₆) ∷ ‵ (froom tyUnit l₁₅ 0) ∷ ‵ (fdies tyUnit l₁₅) ∷ ‵ (froom (sliceTy (tyRef erased mut (pointee (Ev .written)))) l₁₄ 0) ∷ ‵ (fdies (sliceTy (tyRef erased mut (pointee (Ev .written)))) l₁₄) ∷ ‵ (froom (tyRef erased mut (pointee (Ev .written))) l₁₃ 0) ∷ ‵ (fdies (tyRef erased mut (pointee (Ev .written))) l₁₃) ∷ ‵ (froom (sliceTy (tyRef erased mut (pointee (Ev .written)))) l₁₂ 0) ∷ ‵ (fdies (sliceTy (tyRef erased mut (pointee (Ev .written)))) l₁₂) ∷ ‵ (froom (tyRef erased mut (pointee (Ev .written))) l₁₁ 0) ∷ ‵ (fdies (tyRef erased mut (pointee (Ev .written))) l₁₁) ∷ ‵ (froom tyBool l₁₀ 0) ∷ ‵ (fdies tyBool l₁₀) ∷ ‵ (froom tb-ty l₉ 0) ∷ ‵ (fdies tb-ty l₉) ∷ ‵ (froom wt-ty l₈ 0) ∷ ‵ (fdies wt-ty l₈) ∷ ‵ (froom wt-ty l₇ 0) ∷ ‵ (fdies wt-ty l₇) ∷ ‵ (fat fullShare tb-ty l₆ 0 (tb .val (t .s))) ∷ ‵ (fdies tb-ty l₆) ∷ ‵ (fat fullShare (sliceTy (tyRef (named 3) mut (pointee (u8 .written)))) l₅ 0 (sliceVal (b‴, o‴) (length ks))) ∷ ‵ (fdies (sliceTy (tyRef (named 3) mut (pointee (u8 .written)))) l₅) ∷ ‵ (fat fullShare (sliceTy (tyRef (named 2) mut (pointee (Ev .written)))) l₄ 0 (sliceVal (b″, o″) (length ms))) ∷ ‵ (fdies (sliceTy (tyRef (named 2) mut (pointee (Ev .written)))) l₄) ∷ ‵ (fat fullShare (sliceTy (tyRef (named 1) mut (pointee (Ev .written)))) l₃ 0 (sliceVal (b′, o′) (length ys))) ∷ ‵ (fdies (sliceTy (tyRef (named 1) mut (pointee (Ev .written)))) l₃) ∷ ‵ (fat fullShare tyBool l₂ 0 (bool-data .val on)) ∷ ‵ (fdies tyBool l₂) ∷ ‵ (fat fullShare (sliceTy (tyRef (named 0) imm (pointee (u8 .written)))) l₁ 0 (sliceVal (b, o) (length st))) ∷ ‵ (fdies (sliceTy (tyRef (named 0) imm (pointee (u8 .written)))) l₁) ∷ ‵ (froom ct-ty l₀ 0) ∷ ‵ (fdies ct-ty l₀) ∷ []
+      At t = ‵ (Shr u8 κ b o (length st) γ st) ∷ ‵ (flft κ q) ∷ ‵ (Mut Ev κ′ b′ o′ (length ys) γ′ (t .zs)) ∷ ‵ (flft κ′ q′) ∷ ‵ (Mut Ev κ″ b″ o″ (length ms) γ″ (t .ws)) ∷ ‵ (flft κ″ q″) ∷ ‵ (Mut u8 κ‴ b‴ o‴ (length ks) γ‴ (t .ns)) ∷ ‵ (flft κ‴ q‴) ∷ ‵ (froom (sliceTy (tyRef erased mut (pointee (u8 .written)))) l₁₇ 0) ∷ ‵ (fdies (sliceTy (tyRef erased mut (pointee (u8 .written)))) l₁₇) ∷ ‵ (froom (tyRef erased mut (pointee (u8 .written))) l₁₆ 0) ∷ ‵ (fdies (tyRef erased mut (pointee (u8 .written))) l₁₆) ∷ ‵ (froom tyUnit l₁₅ 0) ∷ ‵ (fdies tyUnit l₁₅) ∷ ‵ (froom (sliceTy (tyRef erased mut (pointee (Ev .written)))) l₁₄ 0) ∷ ‵ (fdies (sliceTy (tyRef erased mut (pointee (Ev .written)))) l₁₄) ∷ ‵ (froom (tyRef erased mut (pointee (Ev .written))) l₁₃ 0) ∷ ‵ (fdies (tyRef erased mut (pointee (Ev .written))) l₁₃) ∷ ‵ (froom (sliceTy (tyRef erased mut (pointee (Ev .written)))) l₁₂ 0) ∷ ‵ (fdies (sliceTy (tyRef erased mut (pointee (Ev .written)))) l₁₂) ∷ ‵ (froom (tyRef erased mut (pointee (Ev .written))) l₁₁ 0) ∷ ‵ (fdies (tyRef erased mut (pointee (Ev .written))) l₁₁) ∷ ‵ (froom tyBool l₁₀ 0) ∷ ‵ (fdies tyBool l₁₀) ∷ ‵ (froom tb-ty l₉ 0) ∷ ‵ (fdies tb-ty l₉) ∷ ‵ (froom wn-ty l₈ 0) ∷ ‵ (fdies wn-ty l₈) ∷ ‵ (froom wn-ty l₇ 0) ∷ ‵ (fdies wn-ty l₇) ∷ ‵ (fat fullShare tb-ty l₆ 0 (tb .val (t .s))) ∷ ‵ (fdies tb-ty l₆) ∷ ‵ (fat fullShare (sliceTy (tyRef (named 3) mut (pointee (u8 .written)))) l₅ 0 (sliceVal (b‴, o‴) (length ks))) ∷ ‵ (fdies (sliceTy (tyRef (named 3) mut (pointee (u8 .written)))) l₅) ∷ ‵ (fat fullShare (sliceTy (tyRef (named 2) mut (pointee (Ev .written)))) l₄ 0 (sliceVal (b″, o″) (length ms))) ∷ ‵ (fdies (sliceTy (tyRef (named 2) mut (pointee (Ev .written)))) l₄) ∷ ‵ (fat fullShare (sliceTy (tyRef (named 1) mut (pointee (Ev .written)))) l₃ 0 (sliceVal (b′, o′) (length ys))) ∷ ‵ (fdies (sliceTy (tyRef (named 1) mut (pointee (Ev .written)))) l₃) ∷ ‵ (fat fullShare tyBool l₂ 0 (bool-data .val on)) ∷ ‵ (fdies tyBool l₂) ∷ ‵ (fat fullShare (sliceTy (tyRef (named 0) imm (pointee (u8 .written)))) l₁ 0 (sliceVal (b, o) (length st))) ∷ ‵ (fdies (sliceTy (tyRef (named 0) imm (pointee (u8 .written)))) l₁) ∷ ‵ (froom ct-ty l₀ 0) ∷ ‵ (fdies ct-ty l₀) ∷ []
 
       -- a turn's postcondition: it ends with fewer to come, or the loop is left and the rest of the body runs
       abbrev Turned : Turn → Out → SProp 𝓤
@@ -161,17 +161,17 @@ module _ {M : Type 1} (𝓤 : URA M) (H : Heap 𝓤) (A : Atoms 𝓤) (W : Given
           -- _7 := tables::raw_table(_1, _6.0.1, _6.0.2, _6.0.5, _12, _6.1.1)
           copies ! u8 st b o _ $ move ! (3 ∷ 4 ∷ []) $ lends ! tt Ev (t .zs) b′ o′ (length ys) (t .len) room′ (λ ν2e δ2e. move ! (3 ∷ 5 ∷ 0 ∷ 1 ∷ []) $
           cut (‵ (Shr u8 κ b o (length st) γ st) ∷ ‵ (flft κ q) ∷ ‵ (Mut Ev (ν2e ∷ []) b′ o′ (length ys) δ2e (t .zs)) ∷ ‵ (flft (ν2e ∷ []) fullShare) ∷ []) (raw (TablesRawTable′ 𝓤 H A mem run′ .pre (to-tables-raw-table κ q b o (length st) γ st (((t .s) .next) .line) (((t .s) .next) .at) (((t .s) .next) .stop) (ν2e ∷ []) fullShare b′ o′ (length ys) δ2e (t .zs) (((t .s) .counts) .raw))) ∷ []) _ (asks-tables-raw-table κ q b o (length st) γ st (((t .s) .next) .line) (((t .s) .next) .at) (((t .s) .next) .stop) (ν2e ∷ []) fullShare b′ o′ (length ys) δ2e (t .zs) (((t .s) .counts) .raw) (sn-line ((t .s) .next) (tb-next (t .s) (t .fits .0))) (sn-at ((t .s) .next) (tb-next (t .s) (t .fits .0))) (sn-stop ((t .s) .next) (tb-next (t .s) (t .fits .0))) (ct-raw ((t .s) .counts) (tb-counts (t .s) (t .fits .0))) (due less .span .at, due less .span .ended, due less .span .stop, raw-few st on (t .s) (t .left) (t .fits .1) (due less))) $
-          calls-with ! (fmOf 𝓤 H (W .laws) 𝓣) tables-raw-table.ended (tables-raw-table.clauses 𝓤 H A mem run′) known-tables-raw-table (to-tables-raw-table κ q b o (length st) γ st (((t .s) .next) .line) (((t .s) .next) .at) (((t .s) .next) .stop) (ν2e ∷ []) fullShare b′ o′ (length ys) δ2e (t .zs) (((t .s) .counts) .raw)) wt (writtenAt (lastPoint st (after st (headOf (t .s .next)))) (t .s .counts .raw + length (rawTable (tableAt st (headOf (t .s .next)))))) (λ ws. ws .1 .1 .1 .1 .0 ≡ wrote (t .s .counts .raw) (rawTable (tableAt st (headOf (t .s .next)))) (t .zs)) (λ r ws. id⊢ 𝓤 _) (and-then ! (load ! (from ! (stop !)) (look ! 39 refl)) (and-then ! (load ! (from ! (fld ! refl (fld ! refl (stop !)))) (look-in ! 29 (sub ! 1 refl (sub ! 0 refl (whole !))))) (and-then ! (load ! (from ! (fld ! refl (fld ! refl (stop !)))) (look-in ! 29 (sub ! 2 refl (sub ! 0 refl (whole !))))) (and-then ! (load ! (from ! (fld ! refl (fld ! refl (stop !)))) (look-in ! 29 (sub ! 5 refl (sub ! 0 refl (whole !))))) (and-then ! (load ! (from ! (stop !)) (look ! 17 refl)) (and-then ! (load ! (from ! (fld ! refl (fld ! refl (stop !)))) (look-in ! 29 (sub ! 1 refl (sub ! 1 refl (whole !))))) (no-more !))))))) (λ ok2 ws2 e2.
+          calls-with ! (fmOf 𝓤 H (W .laws) 𝓣) tables-raw-table.ended (tables-raw-table.clauses 𝓤 H A mem run′) known-tables-raw-table (to-tables-raw-table κ q b o (length st) γ st (((t .s) .next) .line) (((t .s) .next) .at) (((t .s) .next) .stop) (ν2e ∷ []) fullShare b′ o′ (length ys) δ2e (t .zs) (((t .s) .counts) .raw)) wn (writtenAt (lastPoint st (after st (headOf (t .s .next)))) (t .s .counts .raw + length (rawTable (tableAt st (headOf (t .s .next)))))) (λ ws. ws .1 .1 .1 .1 .0 ≡ wrote (t .s .counts .raw) (rawTable (tableAt st (headOf (t .s .next)))) (t .zs)) (λ r ws. id⊢ 𝓤 _) (and-then ! (load ! (from ! (stop !)) (look ! 39 refl)) (and-then ! (load ! (from ! (fld ! refl (fld ! refl (stop !)))) (look-in ! 29 (sub ! 1 refl (sub ! 0 refl (whole !))))) (and-then ! (load ! (from ! (fld ! refl (fld ! refl (stop !)))) (look-in ! 29 (sub ! 2 refl (sub ! 0 refl (whole !))))) (and-then ! (load ! (from ! (fld ! refl (fld ! refl (stop !)))) (look-in ! 29 (sub ! 5 refl (sub ! 0 refl (whole !))))) (and-then ! (load ! (from ! (stop !)) (look ! 17 refl)) (and-then ! (load ! (from ! (fld ! refl (fld ! refl (stop !)))) (look-in ! 29 (sub ! 1 refl (sub ! 1 refl (whole !))))) (no-more !))))))) (λ ok2 ws2 e2.
           fsplit ! $ drop ! $ fsplit ! $ drop ! $ fsplit ! $ drop ! $ fsplit ! $ drop ! $ fsplit ! $ fsplit ! $ move ! (1 ∷ []) $ feqL ! (λ len2e. move ! (1 ∷ []) $ drop ! $ move ! (1 ∷ []) $ use1 W (‵ (flft κ q) ⊛ (‵ (flft (ν2e ∷ []) fullShare) ⊛ ‵ ftrue)) (id⊢ 𝓤 _) $ split ! $ move ! (1 ∷ []) $ split ! $ move ! (1 ∷ []) $ drop ! $ move ! (0 ∷ 3 ∷ 2 ∷ []) $ home ! tt Ev (t .zs) (ws2 .1 .1 .1 .1 .0) (wrote (t .s .counts .raw) (rawTable (tableAt st (headOf (t .s .next)))) (t .zs)) b′ o′ (length ys) (t .len) room′ len2e e2 (λ ys2-len.
-          land ! (from ! (stop !)) (init ! 28 refl (typed wt W (writtenAt (lastPoint st (after st (headOf (t .s .next)))) (t .s .counts .raw + length (rawTable (tableAt st (headOf (t .s .next)))))) ok2 .0)) $
+          land ! (from ! (stop !)) (init ! 28 refl (typed wn W (writtenAt (lastPoint st (after st (headOf (t .s .next)))) (t .s .counts .raw + length (rawTable (tableAt st (headOf (t .s .next)))))) ok2 .0)) $
           assigns ! (addr ! (from ! (fld ! refl (hop ! (look-in ! 34 (sub ! 0 refl (whole !))) (stop !))))) (from ! (stop !)) (init ! 16 refl (tt, tt)) $  -- _13 := &(*_4.0)
           assigns ! (agg ! (and-then ! (load ! (from ! (stop !)) (look ! 16 refl)) (and-then ! (load ! (from ! (fld ! refl (stop !))) (look-in ! 34 (sub ! 1 refl (whole !)))) (no-more !)))) (from ! (stop !)) (init ! 14 refl (tt, (tt, (record { fits = room″ .0 }, tt)))) $  -- _14 := {_13, _4.1}
           -- _8 := results::result_table(_1, _6.0.1, _6.0.2, _6.0.5, _14, _6.1.2)
           move ! (3 ∷ []) $ copies ! u8 st b o _ $ move ! (5 ∷ 6 ∷ []) $ lends ! tt Ev (t .ws) b″ o″ (length ms) (t .wlen) room″ (λ ν3e δ3e. move ! (3 ∷ 7 ∷ 0 ∷ 1 ∷ []) $
           cut (‵ (Shr u8 κ b o (length st) γ st) ∷ ‵ (flft κ q) ∷ ‵ (Mut Ev (ν3e ∷ []) b″ o″ (length ms) δ3e (t .ws)) ∷ ‵ (flft (ν3e ∷ []) fullShare) ∷ []) (raw (ResultsResultTable′ 𝓤 H A mem run′ .pre (to-results-result-table κ q b o (length st) γ st (((t .s) .next) .line) (((t .s) .next) .at) (((t .s) .next) .stop) (ν3e ∷ []) fullShare b″ o″ (length ms) δ3e (t .ws) (((t .s) .counts) .results))) ∷ []) _ (asks-results-result-table κ q b o (length st) γ st (((t .s) .next) .line) (((t .s) .next) .at) (((t .s) .next) .stop) (ν3e ∷ []) fullShare b″ o″ (length ms) δ3e (t .ws) (((t .s) .counts) .results) (sn-line ((t .s) .next) (tb-next (t .s) (t .fits .0))) (sn-at ((t .s) .next) (tb-next (t .s) (t .fits .0))) (sn-stop ((t .s) .next) (tb-next (t .s) (t .fits .0))) (ct-results ((t .s) .counts) (tb-counts (t .s) (t .fits .0))) (due less .span .at, due less .span .ended, due less .span .stop, resolved-few st on (t .s) (t .left) (t .fits .1) (due less))) $
-          calls-with ! (fmOf 𝓤 H (W .laws) 𝓣) results-result-table.ended (results-result-table.clauses 𝓤 H A mem run′) known-results-result-table (to-results-result-table κ q b o (length st) γ st (((t .s) .next) .line) (((t .s) .next) .at) (((t .s) .next) .stop) (ν3e ∷ []) fullShare b″ o″ (length ms) δ3e (t .ws) (((t .s) .counts) .results)) wt (writtenAt (lastPoint st (after st (headOf (t .s .next)))) (t .s .counts .results + length (resolvedTable (tableAt st (headOf (t .s .next)))))) (λ ws. ws .1 .1 .1 .1 .0 ≡ wrote (t .s .counts .results) (resolvedTable (tableAt st (headOf (t .s .next)))) (t .ws)) (λ r ws. id⊢ 𝓤 _) (and-then ! (load ! (from ! (stop !)) (look ! 39 refl)) (and-then ! (load ! (from ! (fld ! refl (fld ! refl (stop !)))) (look-in ! 29 (sub ! 1 refl (sub ! 0 refl (whole !))))) (and-then ! (load ! (from ! (fld ! refl (fld ! refl (stop !)))) (look-in ! 29 (sub ! 2 refl (sub ! 0 refl (whole !))))) (and-then ! (load ! (from ! (fld ! refl (fld ! refl (stop !)))) (look-in ! 29 (sub ! 5 refl (sub ! 0 refl (whole !))))) (and-then ! (load ! (from ! (stop !)) (look ! 13 refl)) (and-then ! (load ! (from ! (fld ! refl (fld ! refl (stop !)))) (look-in ! 29 (sub ! 2 refl (sub ! 1 refl (whole !))))) (no-more !))))))) (λ ok3 ws3 e3.
+          calls-with ! (fmOf 𝓤 H (W .laws) 𝓣) results-result-table.ended (results-result-table.clauses 𝓤 H A mem run′) known-results-result-table (to-results-result-table κ q b o (length st) γ st (((t .s) .next) .line) (((t .s) .next) .at) (((t .s) .next) .stop) (ν3e ∷ []) fullShare b″ o″ (length ms) δ3e (t .ws) (((t .s) .counts) .results)) wn (writtenAt (lastPoint st (after st (headOf (t .s .next)))) (t .s .counts .results + length (resolvedTable (tableAt st (headOf (t .s .next)))))) (λ ws. ws .1 .1 .1 .1 .0 ≡ wrote (t .s .counts .results) (resolvedTable (tableAt st (headOf (t .s .next)))) (t .ws)) (λ r ws. id⊢ 𝓤 _) (and-then ! (load ! (from ! (stop !)) (look ! 39 refl)) (and-then ! (load ! (from ! (fld ! refl (fld ! refl (stop !)))) (look-in ! 29 (sub ! 1 refl (sub ! 0 refl (whole !))))) (and-then ! (load ! (from ! (fld ! refl (fld ! refl (stop !)))) (look-in ! 29 (sub ! 2 refl (sub ! 0 refl (whole !))))) (and-then ! (load ! (from ! (fld ! refl (fld ! refl (stop !)))) (look-in ! 29 (sub ! 5 refl (sub ! 0 refl (whole !))))) (and-then ! (load ! (from ! (stop !)) (look ! 13 refl)) (and-then ! (load ! (from ! (fld ! refl (fld ! refl (stop !)))) (look-in ! 29 (sub ! 2 refl (sub ! 1 refl (whole !))))) (no-more !))))))) (λ ok3 ws3 e3.
           fsplit ! $ drop ! $ fsplit ! $ drop ! $ fsplit ! $ drop ! $ fsplit ! $ drop ! $ fsplit ! $ fsplit ! $ move ! (1 ∷ []) $ feqL ! (λ len3e. move ! (1 ∷ []) $ drop ! $ move ! (1 ∷ []) $ use1 W (‵ (flft κ q) ⊛ (‵ (flft (ν3e ∷ []) fullShare) ⊛ ‵ ftrue)) (id⊢ 𝓤 _) $ split ! $ move ! (1 ∷ []) $ split ! $ move ! (1 ∷ []) $ drop ! $ move ! (0 ∷ 3 ∷ 2 ∷ []) $ home ! tt Ev (t .ws) (ws3 .1 .1 .1 .1 .0) (wrote (t .s .counts .results) (resolvedTable (tableAt st (headOf (t .s .next)))) (t .ws)) b″ o″ (length ms) (t .wlen) room″ len3e e3 (λ ms3-len.
-          land ! (from ! (stop !)) (init ! 26 refl (typed wt W (writtenAt (lastPoint st (after st (headOf (t .s .next)))) (t .s .counts .results + length (resolvedTable (tableAt st (headOf (t .s .next)))))) ok3 .0)) $
+          land ! (from ! (stop !)) (init ! 26 refl (typed wn W (writtenAt (lastPoint st (after st (headOf (t .s .next)))) (t .s .counts .results + length (resolvedTable (tableAt st (headOf (t .s .next)))))) ok3 .0)) $
           assigns ! (addr ! (from ! (fld ! refl (hop ! (look-in ! 32 (sub ! 0 refl (whole !))) (stop !))))) (from ! (stop !)) (init ! 10 refl (tt, tt)) $  -- _16 := &(*_5.0)
           assigns ! (agg ! (and-then ! (load ! (from ! (stop !)) (look ! 10 refl)) (and-then ! (load ! (from ! (fld ! refl (stop !))) (look-in ! 32 (sub ! 1 refl (whole !)))) (no-more !)))) (from ! (stop !)) (init ! 8 refl (tt, (tt, (record { fits = room‴ .0 }, tt)))) $  -- _17 := {_16, _5.1}
           -- _15 := write::align_table(_1, _6, _17)
@@ -182,7 +182,7 @@ module _ {M : Type 1} (𝓤 : URA M) (H : Heap 𝓤) (A : Atoms 𝓤) (W : Given
           land ! (from ! (stop !)) (init ! 12 refl (tt, tt)) $
           -- _9 := write::next_table(_1, _2, _6, _7.3, _8.3)
           move ! (3 ∷ []) $ copies ! u8 st b o _ $ move ! (0 ∷ 4 ∷ []) $
-          cut (‵ (Shr u8 κ b o (length st) γ st) ∷ ‵ (flft κ q) ∷ []) (raw (WriteNextTable′ 𝓤 H A mem run′ .pre (to-write-next-table κ q b o (length st) γ st on (t .s) (writtenAt (lastPoint st (after st (headOf (t .s .next)))) (t .s .counts .raw + length (rawTable (tableAt st (headOf (t .s .next))))) .slot) (writtenAt (lastPoint st (after st (headOf (t .s .next)))) (t .s .counts .results + length (resolvedTable (tableAt st (headOf (t .s .next))))) .slot))) ∷ []) _ (asks-write-next-table κ q b o (length st) γ st on (t .s) (writtenAt (lastPoint st (after st (headOf (t .s .next)))) (t .s .counts .raw + length (rawTable (tableAt st (headOf (t .s .next))))) .slot) (writtenAt (lastPoint st (after st (headOf (t .s .next)))) (t .s .counts .results + length (resolvedTable (tableAt st (headOf (t .s .next))))) .slot) on-ok (t .fits .0) (wt-slot (writtenAt (lastPoint st (after st (headOf (t .s .next)))) (t .s .counts .raw + length (rawTable (tableAt st (headOf (t .s .next)))))) ok2) (wt-slot (writtenAt (lastPoint st (after st (headOf (t .s .next)))) (t .s .counts .results + length (resolvedTable (tableAt st (headOf (t .s .next)))))) ok3) (due less .span .next, tables-few st on (t .s) (t .left) (t .fits .1) (due less), aligned-few st on (t .s) (t .left) (t .fits .1) (due less))) $
+          cut (‵ (Shr u8 κ b o (length st) γ st) ∷ ‵ (flft κ q) ∷ []) (raw (WriteNextTable′ 𝓤 H A mem run′ .pre (to-write-next-table κ q b o (length st) γ st on (t .s) (writtenAt (lastPoint st (after st (headOf (t .s .next)))) (t .s .counts .raw + length (rawTable (tableAt st (headOf (t .s .next))))) .slot) (writtenAt (lastPoint st (after st (headOf (t .s .next)))) (t .s .counts .results + length (resolvedTable (tableAt st (headOf (t .s .next))))) .slot))) ∷ []) _ (asks-write-next-table κ q b o (length st) γ st on (t .s) (writtenAt (lastPoint st (after st (headOf (t .s .next)))) (t .s .counts .raw + length (rawTable (tableAt st (headOf (t .s .next))))) .slot) (writtenAt (lastPoint st (after st (headOf (t .s .next)))) (t .s .counts .results + length (resolvedTable (tableAt st (headOf (t .s .next))))) .slot) on-ok (t .fits .0) (wn-slot (writtenAt (lastPoint st (after st (headOf (t .s .next)))) (t .s .counts .raw + length (rawTable (tableAt st (headOf (t .s .next)))))) ok2) (wn-slot (writtenAt (lastPoint st (after st (headOf (t .s .next)))) (t .s .counts .results + length (resolvedTable (tableAt st (headOf (t .s .next)))))) ok3) (due less .span .next, tables-few st on (t .s) (t .left) (t .fits .1) (due less), aligned-few st on (t .s) (t .left) (t .fits .1) (due less))) $
           calls-told ! (fmOf 𝓤 H (W .laws) 𝓣) write-next-table.ended (write-next-table.clauses 𝓤 H A mem run′) known-write-next-table (to-write-next-table κ q b o (length st) γ st on (t .s) (writtenAt (lastPoint st (after st (headOf (t .s .next)))) (t .s .counts .raw + length (rawTable (tableAt st (headOf (t .s .next))))) .slot) (writtenAt (lastPoint st (after st (headOf (t .s .next)))) (t .s .counts .results + length (resolvedTable (tableAt st (headOf (t .s .next))))) .slot)) tb (λ r. Comes st on (r .next) (heads kindOf on (linesFrom st (startOf (t .s .next .next)))) × (r .counts ≡ oneMore (t .s .counts) (t .s .counts .raw + length (rawTable (tableAt st (headOf (t .s .next))))) (t .s .counts .results + length (resolvedTable (tableAt st (headOf (t .s .next))))) (t .s .next .cells))) (λ r ws. id⊢ 𝓤 _) (and-then ! (load ! (from ! (stop !)) (look ! 40 refl)) (and-then ! (load ! (from ! (stop !)) (look ! 38 refl)) (and-then ! (load ! (from ! (stop !)) (look ! 30 refl)) (and-then ! (load ! (from ! (fld ! refl (stop !))) (look-in ! 28 (sub ! 3 refl (whole !)))) (and-then ! (load ! (from ! (fld ! refl (stop !))) (look-in ! 26 (sub ! 3 refl (whole !)))) (no-more !)))))) (λ t5 said5 ok5.
           use1 W (‵ (flft κ q) ⊛ ‵ ftrue) (id⊢ 𝓤 _) $ split ! $ move ! (1 ∷ []) $ drop ! $
           land ! (from ! (stop !)) (init ! 24 refl (typed tb W t5 ok5 .0)) $
@@ -198,7 +198,7 @@ module _ {M : Type 1} (𝓤 : URA M) (H : Heap 𝓤) (A : Atoms 𝓤) (W : Given
 
       -- the body, from the entry on
       -- _17: 8; _16: 10; _15: 12; _14: 14; _13: 16; _12: 18; _11: 20; _10: 22; _9: 24; _8: 26; _7: 28; _6: 30; _5: 32; _4: 34; _3: 36; _2: 38; _1: 40; _0: 42
-      body : Sq W (‵ (Shr u8 κ b o (length st) γ st) ∷ ‵ (flft κ q) ∷ ‵ (Mut Ev κ′ b′ o′ (length ys) γ′ ys) ∷ ‵ (flft κ′ q′) ∷ ‵ (Mut Ev κ″ b″ o″ (length ms) γ″ ms) ∷ ‵ (flft κ″ q″) ∷ ‵ (Mut u8 κ‴ b‴ o‴ (length ks) γ‴ ks) ∷ ‵ (flft κ‴ q‴) ∷ ‵ (froom (sliceTy (tyRef erased mut (pointee (u8 .written)))) l₁₇ 0) ∷ ‵ (fdies (sliceTy (tyRef erased mut (pointee (u8 .written)))) l₁₇) ∷ ‵ (froom (tyRef erased mut (pointee (u8 .written))) l₁₆ 0) ∷ ‵ (fdies (tyRef erased mut (pointee (u8 .written))) l₁₆) ∷ ‵ (froom tyUnit l₁₅ 0) ∷ ‵ (fdies tyUnit l₁₅) ∷ ‵ (froom (sliceTy (tyRef erased mut (pointee (Ev .written)))) l₁₄ 0) ∷ ‵ (fdies (sliceTy (tyRef erased mut (pointee (Ev .written)))) l₁₄) ∷ ‵ (froom (tyRef erased mut (pointee (Ev .written))) l₁₃ 0) ∷ ‵ (fdies (tyRef erased mut (pointee (Ev .written))) l₁₃) ∷ ‵ (froom (sliceTy (tyRef erased mut (pointee (Ev .written)))) l₁₂ 0) ∷ ‵ (fdies (sliceTy (tyRef erased mut (pointee (Ev .written)))) l₁₂) ∷ ‵ (froom (tyRef erased mut (pointee (Ev .written))) l₁₁ 0) ∷ ‵ (fdies (tyRef erased mut (pointee (Ev .written))) l₁₁) ∷ ‵ (froom tyBool l₁₀ 0) ∷ ‵ (fdies tyBool l₁₀) ∷ ‵ (froom tb-ty l₉ 0) ∷ ‵ (fdies tb-ty l₉) ∷ ‵ (froom wt-ty l₈ 0) ∷ ‵ (fdies wt-ty l₈) ∷ ‵ (froom wt-ty l₇ 0) ∷ ‵ (fdies wt-ty l₇) ∷ ‵ (froom tb-ty l₆ 0) ∷ ‵ (fdies tb-ty l₆) ∷ ‵ (fat fullShare (sliceTy (tyRef (named 3) mut (pointee (u8 .written)))) l₅ 0 (sliceVal (b‴, o‴) (length ks))) ∷ ‵ (fdies (sliceTy (tyRef (named 3) mut (pointee (u8 .written)))) l₅) ∷ ‵ (fat fullShare (sliceTy (tyRef (named 2) mut (pointee (Ev .written)))) l₄ 0 (sliceVal (b″, o″) (length ms))) ∷ ‵ (fdies (sliceTy (tyRef (named 2) mut (pointee (Ev .written)))) l₄) ∷ ‵ (fat fullShare (sliceTy (tyRef (named 1) mut (pointee (Ev .written)))) l₃ 0 (sliceVal (b′, o′) (length ys))) ∷ ‵ (fdies (sliceTy (tyRef (named 1) mut (pointee (Ev .written)))) l₃) ∷ ‵ (fat fullShare tyBool l₂ 0 (bool-data .val on)) ∷ ‵ (fdies tyBool l₂) ∷ ‵ (fat fullShare (sliceTy (tyRef (named 0) imm (pointee (u8 .written)))) l₁ 0 (sliceVal (b, o) (length st))) ∷ ‵ (fdies (sliceTy (tyRef (named 0) imm (pointee (u8 .written)))) l₁) ∷ ‵ (froom ct-ty l₀ 0) ∷ ‵ (fdies ct-ty l₀) ∷ []) (runs C Λ En code-mir.t-1 (atRet En Post))
+      body : Sq W (‵ (Shr u8 κ b o (length st) γ st) ∷ ‵ (flft κ q) ∷ ‵ (Mut Ev κ′ b′ o′ (length ys) γ′ ys) ∷ ‵ (flft κ′ q′) ∷ ‵ (Mut Ev κ″ b″ o″ (length ms) γ″ ms) ∷ ‵ (flft κ″ q″) ∷ ‵ (Mut u8 κ‴ b‴ o‴ (length ks) γ‴ ks) ∷ ‵ (flft κ‴ q‴) ∷ ‵ (froom (sliceTy (tyRef erased mut (pointee (u8 .written)))) l₁₇ 0) ∷ ‵ (fdies (sliceTy (tyRef erased mut (pointee (u8 .written)))) l₁₇) ∷ ‵ (froom (tyRef erased mut (pointee (u8 .written))) l₁₆ 0) ∷ ‵ (fdies (tyRef erased mut (pointee (u8 .written))) l₁₆) ∷ ‵ (froom tyUnit l₁₅ 0) ∷ ‵ (fdies tyUnit l₁₅) ∷ ‵ (froom (sliceTy (tyRef erased mut (pointee (Ev .written)))) l₁₄ 0) ∷ ‵ (fdies (sliceTy (tyRef erased mut (pointee (Ev .written)))) l₁₄) ∷ ‵ (froom (tyRef erased mut (pointee (Ev .written))) l₁₃ 0) ∷ ‵ (fdies (tyRef erased mut (pointee (Ev .written))) l₁₃) ∷ ‵ (froom (sliceTy (tyRef erased mut (pointee (Ev .written)))) l₁₂ 0) ∷ ‵ (fdies (sliceTy (tyRef erased mut (pointee (Ev .written)))) l₁₂) ∷ ‵ (froom (tyRef erased mut (pointee (Ev .written))) l₁₁ 0) ∷ ‵ (fdies (tyRef erased mut (pointee (Ev .written))) l₁₁) ∷ ‵ (froom tyBool l₁₀ 0) ∷ ‵ (fdies tyBool l₁₀) ∷ ‵ (froom tb-ty l₉ 0) ∷ ‵ (fdies tb-ty l₉) ∷ ‵ (froom wn-ty l₈ 0) ∷ ‵ (fdies wn-ty l₈) ∷ ‵ (froom wn-ty l₇ 0) ∷ ‵ (fdies wn-ty l₇) ∷ ‵ (froom tb-ty l₆ 0) ∷ ‵ (fdies tb-ty l₆) ∷ ‵ (fat fullShare (sliceTy (tyRef (named 3) mut (pointee (u8 .written)))) l₅ 0 (sliceVal (b‴, o‴) (length ks))) ∷ ‵ (fdies (sliceTy (tyRef (named 3) mut (pointee (u8 .written)))) l₅) ∷ ‵ (fat fullShare (sliceTy (tyRef (named 2) mut (pointee (Ev .written)))) l₄ 0 (sliceVal (b″, o″) (length ms))) ∷ ‵ (fdies (sliceTy (tyRef (named 2) mut (pointee (Ev .written)))) l₄) ∷ ‵ (fat fullShare (sliceTy (tyRef (named 1) mut (pointee (Ev .written)))) l₃ 0 (sliceVal (b′, o′) (length ys))) ∷ ‵ (fdies (sliceTy (tyRef (named 1) mut (pointee (Ev .written)))) l₃) ∷ ‵ (fat fullShare tyBool l₂ 0 (bool-data .val on)) ∷ ‵ (fdies tyBool l₂) ∷ ‵ (fat fullShare (sliceTy (tyRef (named 0) imm (pointee (u8 .written)))) l₁ 0 (sliceVal (b, o) (length st))) ∷ ‵ (fdies (sliceTy (tyRef (named 0) imm (pointee (u8 .written)))) l₁) ∷ ‵ (froom ct-ty l₀ 0) ∷ ‵ (fdies ct-ty l₀) ∷ []) (runs C Λ En code-mir.t-1 (atRet En Post))
       body =
           -- _6 := write::first_table(_1, _2)
           copies ! u8 st b o _ $ move ! (0 ∷ 2 ∷ []) $
