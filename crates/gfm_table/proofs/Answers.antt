@@ -10,7 +10,6 @@ use lib.Dec.{eqb}
 use lib.ListN.{length}
 use Rattle.tokenizer.specs.declared.event.Point.{Point}
 use Rattle.tokenizer.specs.Bytes.{kindOf}
-use Rattle.tokenizer.specs.Points.{past}
 use Rattle.tokenizer.specs.Lines.{Line}
 use Rattle.tokenizer.specs.Moves.{lineAt, after}
 use Rattle.gfm_table.specs.declared.heads.Opened.{Opened}

@@ -1,19 +1,18 @@
 -- The raw events that are still to come from a cursor, and what a step makes of them.
 -- Assumes nothing.
-use Prim.Native.Nat.{ℕ, zero, suc, _+_, _≤_, _<_}
+use Prim.Native.Nat.{ℕ, zero, suc, _+_, _<_}
 use mathlib.Core.Path.{_≡_, refl, ap, sym, _∙_}
 use mathlib.Core.Bool.{Bool, true, false, cond}
 use mathlib.Core.List.{List, [], _∷_, _++_}
-use mathlib.Core.Logic.{_⊎_, inl, inr}
 use native.Mathlib.Omega.{arith}
-use borrow.Author.Tests.{eq-eqb, ne-eqb, eqb-true, eqb-false}
+use borrow.Author.Tests.{eqb-true, eqb-false}
 use lib.Dec.{eqb}
 use lib.ListN.{length, drop, length-drop}
 use Rattle.tokenizer.specs.declared.event.Point.{Point}
 use Rattle.tokenizer.specs.declared.event.Event.{Event}
 use Rattle.tokenizer.specs.Bytes.{kindOf}
 use Rattle.tokenizer.specs.Points.{past, nextLine}
-use Rattle.tokenizer.specs.Events.{LineEnding, GfmTableHead, blankEvent, enter, leave}
+use Rattle.tokenizer.specs.Events.{LineEnding, GfmTableHead, enter, leave}
 use Rattle.tokenizer.specs.Slots.{slotsOf}
 use Rattle.tokenizer.specs.Lines.{endAt}
 use Rattle.tokenizer.specs.Moves.{aheadOf, restOf, Inside}
@@ -24,8 +23,8 @@ use Rattle.gfm_table.specs.declared.stream.Part.the-variants.{Head, Deli
 use Rattle.gfm_table.specs.declared.stream.Cursor.{Cursor}
 use Rattle.gfm_table.specs.declared.stream.Cursor.the-variants.{Begin, Enter, Between, Entered, Ended, Broken}
 use Rattle.gfm_table.specs.declared.stream.Stepped.{Stepped}
-use Rattle.gfm_table.specs.Rows.{Piece, Passed, passed, allBoth, rowPieces, delimiterPieces}
-use Rattle.gfm_table.specs.Stream.{nameOf, piecesOf, overAt, breakOf, stepOf, gave, Good}
+use Rattle.gfm_table.specs.Rows.{Piece, passed, allBoth, rowPieces, delimiterPieces}
+use Rattle.gfm_table.specs.Stream.{nameOf, piecesOf, overAt, stepOf, gave, Good}
 use Rattle.gfm_table.proofs.Machine as M
 use Rattle.gfm_table.proofs.Fillers as F
 

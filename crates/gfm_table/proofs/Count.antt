@@ -1,11 +1,11 @@
 -- What a whole row counts: its pieces, its cells, whether it is one lone divider, and where it ends.
 -- Assumes nothing.
-use Prim.Native.Nat.{ℕ, zero, suc, _+_, _-_, _≤_, _<_}
+use Prim.Native.Nat.{ℕ, _+_, _-_}
 use mathlib.Core.Path.{_≡_, refl, ap, sym, _∙_}
 use mathlib.Core.Bool.{Bool, true, false, cond, not, _&&_, true≢false, false≢true}
 use mathlib.Core.List.{List, [], _∷_, _++_}
 use native.Mathlib.Omega.{arith}
-use borrow.Author.Tests.{eqb-true, le-leb, lt-leb}
+use borrow.Author.Tests.{eqb-true, lt-leb}
 use lib.Dec.{eqb, leb}
 use lib.ListN.{length}
 use Rattle.tokenizer.specs.declared.event.Point.{Point}
@@ -13,12 +13,12 @@ use Rattle.gfm_table.specs.declared.states.Scan.{Scan}
 use Rattle.tokenizer.specs.Bytes.{kindOf}
 use Rattle.tokenizer.specs.Points.{past}
 use Rattle.gfm_table.specs.Rows.{Piece, joins, onPieces, rowName, oddAfter, rowPieces}
-use Rattle.gfm_table.specs.Heads.{isDivider, solid, loneDivider, dividers, leading, trailing, cellCount, headCells}
-use Rattle.tokenizer.specs.Lines.{indent, unindented}
+use Rattle.gfm_table.specs.Heads.{isDivider, solid, loneDivider, dividers, trailing, cellCount, headCells}
+use Rattle.tokenizer.specs.Lines.{unindented}
 use Rattle.tokenizer.specs.Moves.{restOf, Inside}
-use Rattle.gfm_table.specs.Machine.{isSolid, stepped, walked, pipeFirst, startAt, whole, RowRead, Counted}
+use Rattle.gfm_table.specs.Machine.{stepped, walked, pipeFirst, startAt, whole, RowRead, Counted}
 use Rattle.tokenizer.proofs.Ahead.{past-append, past-none}
-use Rattle.gfm_table.proofs.Runs.{View, view, space, pipe, slash, plain, led, single, space-pieces}
+use Rattle.gfm_table.proofs.Runs.{View, view, space, pipe, slash, plain, single}
 
 -- ## Where it ends
 

@@ -88,13 +88,12 @@ doubled true = refl
 doubled false = refl
 
 -- the counters of a line whose first solid byte stands at j and has the kind k
-pub head-read : (s : List ℕ) (at j k n m b : ℕ) → j ≡ at + length (indent kindOf (lineFrom s at)) → k ≡ aheadOf kindOf (drop j s) → n ≡ length (rowPieces kindOf false (lineFrom s at)) → m ≡ begun (not (eqb k 3)) (solidFrom s at)
-    → b ≡ cond (not (eqb k 3)) 1 0 + length (solidFrom s at) → HeadRead (lineFrom s at) (record { pieces = n; size = m; «size_b» = b })
-head-read s at j k n m b d e f g h =
+pub head-read : (s : List ℕ) (at j k m b : ℕ) → j ≡ at + length (indent kindOf (lineFrom s at)) → k ≡ aheadOf kindOf (drop j s) → m ≡ begun (not (eqb k 3)) (solidFrom s at)
+    → b ≡ cond (not (eqb k 3)) 1 0 + length (solidFrom s at) → HeadRead (lineFrom s at) (record { size = m; «size_b» = b })
+head-read s at j k m b d e f g =
     let u = lineFrom s at in
     let l : pipeFirst (unindented kindOf u) ≡ eqb k 3 = led-ahead s (pointOf at) ∙ ap (λ (x : ℕ). eqb (aheadOf kindOf (drop x s)) 3) (sym d) ∙ ap (λ (x : ℕ). eqb x 3) (sym e) in
     record {
-      pieces = f;
-      cells = g ∙ ap (λ (t : Bool). begun (not t) (solidFrom s at)) (sym l) ∙ head-cells u;
-      lone = ap (λ (x : ℕ). leb x 1) (h ∙ ap (λ (t : Bool). cond (not t) 1 0 + length (solidFrom s at)) (sym l) ∙ ap (λ (x : ℕ). x + length (solidFrom s at)) (doubled (pipeFirst (unindented kindOf u)))) ∙ head-lone u;
+      cells = f ∙ ap (λ (t : Bool). begun (not t) (solidFrom s at)) (sym l) ∙ head-cells u;
+      lone = ap (λ (x : ℕ). leb x 1) (g ∙ ap (λ (t : Bool). cond (not t) 1 0 + length (solidFrom s at)) (sym l) ∙ ap (λ (x : ℕ). x + length (solidFrom s at)) (doubled (pipeFirst (unindented kindOf u)))) ∙ head-lone u;
     }

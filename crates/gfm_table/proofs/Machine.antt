@@ -14,13 +14,11 @@ use Rattle.gfm_table.specs.declared.states.Step.{Step}
 use Rattle.gfm_table.specs.declared.states.Step.the-variants.{Paused, Ended}
 use Rattle.tokenizer.specs.Bytes.{kindOf}
 use Rattle.tokenizer.specs.Points.{past}
-use Rattle.tokenizer.specs.Events.{enter, leave}
-use Rattle.gfm_table.specs.Rows.{Piece, rowPieces, passed}
+use Rattle.gfm_table.specs.Rows.{Piece, rowPieces}
 use Rattle.tokenizer.specs.Lines.{indent, unindented}
-use Rattle.tokenizer.specs.Lines.{lineBody}
 use Rattle.tokenizer.specs.Moves.{aheadOf, restOf, overAt, Inside}
-use Rattle.gfm_table.specs.Machine.{dataRun, dataRest, isSolid, stepped, walked, outcome, whole, piecesAt, Counted, Read, Passes}
-use Rattle.tokenizer.proofs.Ahead.{Front, runEnd, ends, rest-past, inside-past}
+use Rattle.gfm_table.specs.Machine.{dataRun, dataRest, isSolid, stepped, walked, outcome, whole, piecesAt, Counted, Passes}
+use Rattle.tokenizer.proofs.Ahead.{Front, ends, rest-past, inside-past}
 use Rattle.tokenizer.proofs.Runs.{space-on, space-split}
 use Rattle.gfm_table.proofs.Runs.{led-some, single, space-pieces, data-some, data-split, data-pieces}
 
@@ -131,20 +129,3 @@ module _ (s : List ℕ) (q p : Scan) (n : ℕ) where
 
   pub ended-whole : Passes s q n (Ended p) → p ≡ whole s q
   ended-whole h = end-walks n q p (piecesAt s (q .at)) (h .is)
-
-  -- one piece at a time: the piece that is yielded is the first, entered and left at the state's two points
-  pub yields : Passes s q 1 (Paused p) → passed (q .at) (piecesAt s (q .at)) ≡ record { entry = enter (p .name) (p .from); exit = leave (p .name) (p .at) } ∷ passed (p .at) (piecesAt s (p .at))
-  unfolding outcome passed
-  yields h = go (piecesAt s (q .at)) (h .is) (h .left)
-    where
-      go : (xs : List Piece) → Paused p ≡ outcome 1 q xs → piecesAt s (p .at) ≡ drop 1 xs → passed (q .at) xs ≡ record { entry = enter (p .name) (p .from); exit = leave (p .name) (p .at) } ∷ passed (p .at) (piecesAt s (p .at))
-      go [] e l = absurd (let z : _≡_ {A = ℕ} 0 1 = cc in omega arith)
-      go (x ∷ xs) e l = let i : p ≡ stepped q x = cc in rw (l, i)
-
-  pub yields-none : Passes s q 1 (Ended p) → (p ≡ q) × (piecesAt s (q .at) ≡ [])
-  unfolding outcome
-  yields-none h = go (piecesAt s (q .at)) (h .is)
-    where
-      go : (xs : List Piece) → Ended p ≡ outcome 1 q xs → (p ≡ q) × (xs ≡ [])
-      go [] e = (cc, refl)
-      go (x ∷ xs) e = absurd (let z : _≡_ {A = ℕ} 0 1 = cc in omega arith)

@@ -67,14 +67,12 @@ module _ (s : List ℕ) (i : ℕ) where
 pub record Passes (s : List ℕ) (i j n : ℕ) : Type 0 where
   pub text : List ℕ
   pub pieces : rowPieces kindOf false (lineFrom s i) ≡ record { name = n; text = text } ∷ rowPieces kindOf false (lineFrom s j)
-  pub fewer : length (rowPieces kindOf false (lineFrom s i)) ≡ 1 + length (rowPieces kindOf false (lineFrom s j))
-  pub stop : i + length (lineFrom s i) ≡ j + length (lineFrom s j)
   pub onward : i < j
 
 -- nothing is left of the line
-pub no-pieces : (s : List ℕ) (i : ℕ) → aheadOf kindOf (drop i s) ≡ 2 → (length (rowPieces kindOf false (lineFrom s i)) ≡ 0) × (length (lineFrom s i) ≡ 0)
+pub no-pieces : (s : List ℕ) (i : ℕ) → aheadOf kindOf (drop i s) ≡ 2 → length (rowPieces kindOf false (lineFrom s i)) ≡ 0
 unfolding rowPieces
-no-pieces s i e = let h = ends (drop i s) e in (ap (λ (u : List ℕ). length (rowPieces kindOf false u)) h, ap length h)
+no-pieces s i e = ap (λ (u : List ℕ). length (rowPieces kindOf false u)) (ends (drop i s) e)
 
 passes : (s : List ℕ) (i j n : ℕ) (t u : List ℕ) → j ≡ i + length t → lineFrom s i ≡ t ++ u → 0 < length t → rowPieces kindOf false (lineFrom s i) ≡ record { name = n; text = t } ∷ rowPieces kindOf false u → Passes s i j n
 passes s i j n t u d e l f =
@@ -82,8 +80,6 @@ passes s i j n t u d e l f =
     record {
       text = t;
       pieces = f ∙ ap (λ (r : List ℕ). record { name = n; text = t } ∷ rowPieces kindOf false r) (sym h);
-      fewer = omega (arith, ap length f, ap (λ (r : List ℕ). length (rowPieces kindOf false r)) h);
-      stop = omega (arith, d, ap length e, length-append t u, ap length h);
       onward = omega (arith, d, l);
     }
 

@@ -1,33 +1,25 @@
--- The pieces of a row by the places of its bytes: where runs of fillers end, and pieces without a tab.
+-- The pieces of a row by the places of its bytes: places inside the sheet, and pieces without a tab.
 -- Assumes nothing.
-use Prim.Native.Nat.{ℕ, _+_, _*_, _/_, _≤_, _<_}
+use Prim.Native.Nat.{ℕ, _+_, _*_, _/_, _≤_}
 use mathlib.Core.Path.{_≡_, refl, ap, sym, _∙_}
 use mathlib.Core.Bool.{Bool, true, false, cond, true≢false}
 use mathlib.Core.List.{List, [], _∷_}
-use mathlib.Core.Logic.{_⊎_}
 use native.Mathlib.Nat.{add-zero}
 use native.Mathlib.Omega.{arith}
 use borrow.Author.Tests.{eqb-true}
 use lib.Dec.{eqb}
-use lib.ListN.{length, getD}
+use lib.ListN.{length}
 use Rattle.tokenizer.specs.Bytes.{kindOf}
 use Rattle.tokenizer.specs.Points.{columnAfter, columnPast}
 use Rattle.tokenizer.specs.Moves.{Inside}
-use Rattle.tokenizer.proofs.Ahead.{Front}
 use Rattle.gfm_table.specs.declared.rows.Placed.{Placed}
 use Rattle.gfm_table.specs.Rows.{delimiterName}
 use Rattle.gfm_table.specs.Delimiters.{fillerRun}
 use Rattle.gfm_table.specs.Places.{pointIn, placed}
-use Rattle.gfm_table.proofs.Passing.{lineFrom}
-use Rattle.gfm_table.proofs.Fillers.{filler-on}
 
 -- a place in the sheet is inside it
 pub inside-at : (s : List ℕ) (i c : ℕ) → (length s ≤ 65536) × (i ≤ length s) × (c ≤ 4 * i + 1) → Inside s (pointIn 0 i c)
 inside-at s i c h = record { short = h .0; within = h .1; narrow = h .2; lined = omega arith; flat = refl }
-
--- one byte more of fillers
-pub fillers-more : (s : List ℕ) (i k : ℕ) → Front s i k → (k < 1) ⊎ (3 < k) → (k ≡ 6 → ⊥) → length (fillerRun kindOf (lineFrom s i)) ≡ 1 + length (fillerRun kindOf (lineFrom s (i + 1)))
-fillers-more s i k f h d = ap length (ap (fillerRun kindOf) (f .line) ∙ filler-on kindOf _ _ (rw (f .kind) h) (λ z. d (sym (f .kind) ∙ z))) ∙ (omega arith)
 
 -- ## Columns
 

@@ -1,15 +1,14 @@
 -- How many events heads and rows have, and what the questions make of them.
 -- Assumes nothing.
-use Prim.Native.Nat.{ℕ, suc, _+_, _*_, _≤_, _<_}
+use Prim.Native.Nat.{ℕ, suc, _+_, _*_, _≤_}
 use mathlib.Core.Path.{_≡_, refl, ap, sym, _∙_}
 use mathlib.Core.Bool.{Bool, true, false, cond, _&&_, true≢false}
 use mathlib.Core.List.{List, [], _∷_, _++_, append-nil}
 use native.Mathlib.Omega.{arith}
-use borrow.Author.Tests.{eq-eqb, ne-eqb, eqb-true, eqb-false, ltb-true, ltb-false, lt-ltb, le-ltb}
+use borrow.Author.Tests.{eq-eqb, ne-eqb, eqb-true, eqb-false, ltb-true, ltb-false}
 use lib.Dec.{eqb, ltb}
-use lib.ListN.{length, drop, length-append, length-drop}
+use lib.ListN.{length, length-append}
 use Rattle.tokenizer.specs.declared.event.Point.{Point}
-use Rattle.tokenizer.specs.declared.event.Event.{Event}
 use Rattle.tokenizer.specs.Bytes.{kindOf}
 use Rattle.tokenizer.specs.Points.{past, nextLine}
 use Rattle.tokenizer.specs.Events.{LineEnding, GfmTableHead, enter, leave}
@@ -22,9 +21,9 @@ use Rattle.gfm_table.specs.declared.stream.Part.the-variants.{Head, Body
 use Rattle.gfm_table.specs.declared.stream.Cursor.the-variants.{Begin, Enter}
 use Rattle.gfm_table.specs.declared.calls.Head.the-variants as head
 use Rattle.gfm_table.specs.declared.calls.Row.the-variants as row
-use Rattle.gfm_table.specs.Rows.{Piece, Passed, joins, onPieces, rowName, oddAfter, rowPieces, delimiterName, delimiterPieces, passed, allBoth, rawRow}
+use Rattle.gfm_table.specs.Rows.{Piece, joins, onPieces, rowName, oddAfter, rowPieces, delimiterName, delimiterPieces, passed, allBoth, rawRow}
 use Rattle.gfm_table.specs.Heads.{headRefusal}
-use Rattle.gfm_table.specs.Raw.{rowAt, textRow, delimiterRow, headEvents}
+use Rattle.gfm_table.specs.Raw.{rowAt, headEvents}
 use Rattle.gfm_table.specs.Answers.{openedAt}
 use Rattle.gfm_table.specs.Stream.{gave, Good}
 use Rattle.gfm_table.proofs.Answers.{refused-end}

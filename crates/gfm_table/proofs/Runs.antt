@@ -11,11 +11,10 @@ use borrow.Author.Tests.{eqb-true, eq-eqb, ne-eqb, eqb-false, not-true}
 use lib.Dec.{eqb}
 use Rattle.tokenizer.specs.Bytes.{kindOf}
 use Rattle.tokenizer.specs.Points.{columnAfter, columnPast}
-use Rattle.tokenizer.proofs.Runs.{split, space-split}
+use Rattle.tokenizer.proofs.Runs.{split}
 use lib.ListN.{length}
 use Rattle.gfm_table.specs.Rows.{Piece, joins, onPieces, rowName, oddAfter, rowPieces}
 use Rattle.tokenizer.specs.Lines.{indent, unindented}
-use Rattle.tokenizer.specs.Moves.{runOf, afterRun}
 use Rattle.gfm_table.specs.Machine.{dataRun, dataRest, escaped, unescaped}
 
 -- ## The kinds that a row tells apart

@@ -11,7 +11,7 @@ use lib.Dec.{eqb}
 use lib.ListN.{drop}
 use Rattle.tokenizer.specs.declared.event.Point.{Point}
 use Rattle.tokenizer.specs.Bytes.{kindOf, isEnd}
-use Rattle.tokenizer.specs.Lines.{isEmpty, blank, indent, unindented}
+use Rattle.tokenizer.specs.Lines.{indent, unindented}
 use Rattle.tokenizer.specs.Moves.{aheadOf, restOf}
 use Rattle.tokenizer.specs.Lines.{lineBody}
 use Rattle.gfm_table.specs.Machine.{dataRun, escaped, pipeFirst}

@@ -1,12 +1,11 @@
 -- What the row machine's promises cite: the line ahead, runs of data, and what a row's pieces make of a state.
-use Prim.Native.Nat.{ℕ, zero, suc, _+_, _-_, _*_, _≤_, _<_}
+use Prim.Native.Nat.{ℕ, zero, suc, _+_, _≤_, _<_}
 use mathlib.Core.Path.{_≡_}
 use mathlib.Core.List.{List, [], _∷_}
-use mathlib.Core.Bool.{Bool, true, false, cond, _||_, _&&_, not}
+use mathlib.Core.Bool.{Bool, false, cond, _||_, _&&_, not}
 use lib.Dec.{eqb, leb}
-use lib.ListN.{length, drop, getD}
+use lib.ListN.{length, drop}
 use Rattle.tokenizer.specs.declared.event.Point.{Point}
-use Rattle.tokenizer.specs.Lines.{lineBody}
 use Rattle.tokenizer.specs.Moves.{restOf, Inside}
 use Rattle.gfm_table.specs.declared.states.Scan.{Scan}
 use Rattle.gfm_table.specs.declared.states.Step.{Step}
@@ -136,6 +135,5 @@ pub record RowRead (u : List ℕ) (p : Point) (r : Scan) : Type 0 where
 
 -- a head line with the body u is counted
 pub record HeadRead (u : List ℕ) (r : HeadRow) : Type 0 where
-  pub pieces : r .pieces ≡ length (rowPieces kindOf false u)
   pub cells : r .size ≡ headCells kindOf u
   pub lone : leb (r .«size_b») 1 ≡ loneDivider (solid (rowPieces kindOf false u))

@@ -7,15 +7,9 @@ ghost use Prim.Native.Nat.{_≤_, _+_};
 ghost use lib.ListN.{length, drop};
 ghost use Rattle.tokenizer.specs.Bytes.{kindOf};
 ghost use Rattle.tokenizer.specs.Lines.{lineBody, indent};
-ghost use Rattle.gfm_table.specs.Rows.{rowPieces, delimiterPieces};
+ghost use Rattle.gfm_table.specs.Rows.{delimiterPieces};
 ghost use Rattle.gfm_table.specs.Machine.{dataRun, HeadRead};
 ghost use Rattle.gfm_table.specs.Delimiters.{fillerRun};
-
-// How many pieces, and where the bytes of their line end.
-pub struct Pieces {
-    pub count: u32,
-    pub end: usize,
-}
 
 // The end of a run of spaces and tabs.
 pub fn spaces_end(s: &[u8], at: usize) -> usize
@@ -48,37 +42,8 @@ pub fn text_end(s: &[u8], at: usize) -> usize
     }
 }
 
-// The pieces from a place to the end of its line.
-pub fn pieces_from(s: &[u8], at: usize) -> Pieces
-    requires { ⌜ (length (now s) ≤ 65536) × (at ≤ length (now s)) ⌝ }
-    ensures { λ r. ⌜ (r .count ≡ length (rowPieces kindOf false (lineBody (drop at (now (s .entry)))))) × (r .end ≡ at + length (lineBody (drop at (now (s .entry))))) ⌝ }
-{
-    let mut i = at;
-    let mut n: u32 = 0;
-    loop {
-        match kind_at(s, i) {
-            1 => {
-                i = spaces_end(s, i + 1);
-                n += 1;
-            }
-            2 => {
-                return Pieces { count: n, end: i };
-            }
-            3 => {
-                i += 1;
-                n += 1;
-            }
-            _ => {
-                i = text_end(s, i);
-                n += 1;
-            }
-        }
-    }
-}
-
-// A head line: its pieces, its cells, and its solid pieces, where the first counts double unless it is a divider.
+// A head line: its cells, and its solid pieces, where the first counts double unless it is a divider.
 pub struct HeadRow {
-    pub pieces: u32,
     pub size: u32,
     pub size_b: u32,
 }
@@ -96,7 +61,6 @@ pub fn head_row(s: &[u8], at: usize) -> HeadRow
     ensures { λ r. ⌜ HeadRead (lineBody (drop at (now (s .entry)))) r ⌝ }
 {
     let mut i = at;
-    let mut n: u32 = 0;
     let mut size: u32 = 0;
     let mut seen = kind_at(s, spaces_end(s, at)) != 3;
     let mut size_b: u32 = one_if(seen);
@@ -104,25 +68,18 @@ pub fn head_row(s: &[u8], at: usize) -> HeadRow
         match kind_at(s, i) {
             1 => {
                 i = spaces_end(s, i + 1);
-                n += 1;
             }
             2 => {
-                return HeadRow {
-                    pieces: n,
-                    size,
-                    size_b,
-                };
+                return HeadRow { size, size_b };
             }
             3 => {
                 i += 1;
-                n += 1;
                 size += one_if(seen);
                 size_b += 1;
                 seen = true;
             }
             _ => {
                 i = text_end(s, i);
-                n += 1;
                 size += one_if(seen);
                 size_b += 1;
                 seen = false;

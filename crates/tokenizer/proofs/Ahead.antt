@@ -4,10 +4,9 @@ use Prim.Native.Nat.{ℕ, zero, suc, _+_, _-_, _*_, _/_, _≤_, _<_}
 use mathlib.Core.Path.{_≡_, refl, ap, sym, _∙_}
 use mathlib.Core.Bool.{Bool, true, false, cond, true≢false}
 use mathlib.Core.List.{List, [], _∷_, _++_}
-use native.Mathlib.Nat.{add-zero, add-assoc, not-suc-le-zero, le-of-suc-le-suc}
+use native.Mathlib.Nat.{add-zero, add-assoc}
 use native.Mathlib.Numerals.{add-one}
 use native.Mathlib.Omega.{arith}
-use borrow.Author.Tests.{ne-eqb, eqb-true, eqb-false}
 use lib.Dec.{eqb}
 use lib.ListN.{length, drop, getD, length-append, length-drop}
 use lib.Seq.{drop-cons, drop-drop}

@@ -1,20 +1,18 @@
 -- Line ends: how long they are, where the next line starts, and which lines are blank.
 -- Assumes nothing.
-use Prim.Native.Nat.{ℕ, _+_, _-_, _≤_}
+use Prim.Native.Nat.{ℕ, _-_, _≤_}
 use mathlib.Core.Path.{_≡_, refl, ap, sym, _∙_}
 use mathlib.Core.Bool.{Bool, true, false, cond, _&&_}
 use mathlib.Core.List.{List, [], _∷_, append-nil}
 use native.Mathlib.Omega.{arith}
-use borrow.Author.Tests.{eq-eqb, ne-eqb}
 use lib.Dec.{eqb}
 use lib.ListN.{length, drop, length-drop}
 use lib.Seq.{drop-drop}
 use Rattle.tokenizer.specs.declared.event.Point.{Point}
-use Rattle.tokenizer.specs.declared.lines.Further.the-variants.{More, Last}
 use Rattle.tokenizer.specs.Bytes.{kindOf, isEnd}
 use Rattle.tokenizer.specs.Points.{past}
 use Rattle.tokenizer.specs.Lines.{startsLF, lineBody, endAt, isEmpty, indent, unindented, blank}
-use Rattle.tokenizer.specs.Moves.{aheadOf, restOf, lineAt, after, furtherOf, Inside}
+use Rattle.tokenizer.specs.Moves.{aheadOf, restOf, lineAt, after, Inside}
 use Rattle.tokenizer.proofs.Bytes.{end-kind}
 use Rattle.tokenizer.proofs.Runs.{space-split}
 use Rattle.tokenizer.proofs.Ahead.{inside-past, rest-past, runEnd, rest-end}
@@ -59,12 +57,6 @@ module _ (s : List ℕ) (p : Point) where
       let l : endAt (drop (past p (restOf s p) .index) s) ≤ length s - past p (restOf s p) .index = rw (← length-drop) (end-fits (drop (past p (restOf s p) .index) s) .0) in
       let e = end-past in
       record { short = h .short; within = omega (arith, i .within); narrow = omega arith; lined = omega (arith, h .lined); flat = refl }
-
-  pub further-last : lineAt s p .end ≡ 0 → Last ≡ furtherOf s p
-  further-last e = rw (eq-eqb (lineAt s p .end) 0 e)
-
-  pub further-more : (lineAt s p .end ≡ 0 → ⊥) → More (after s p) ≡ furtherOf s p
-  further-more z = rw (ne-eqb (lineAt s p .end) 0 z)
 
 -- ## Blank lines
 

@@ -1,6 +1,6 @@
 -- The state of a loop that fills a list from the left. The list is ys on entry; `gives m s` is what m more turns make of what is left, from the state s; `goal` is what the list is to be.
 --     Turn             i elements are written and m are to come, from the state s, of which OK i s holds; the list is now zs, and past i it is ys
---     starts, goes-on, is-done     before the first turn; after one more; where none is to come.        stops    where the loop is left before the end
+--     starts, goes-on, is-done     before the first turn; after one more; where none is to come
 -- Assumes nothing.
 use mathlib.Core.Path.{_≡_, refl, sym, _∙_, ap, subst}
 use Prim.Native.Nat.{ℕ, suc, _+_, _-_, _≤_, _<_}
@@ -8,7 +8,7 @@ use native.Mathlib.Numerals.{add-one}
 use native.Mathlib.Omega.{arith}
 use mathlib.Core.WellFounded.{WellFounded, InvImage·wf}
 use mathlib.Core.List.{List, [], _∷_, _++_, append-nil}
-use lib.ListN.{length, take, drop, set, length-set, take-append-drop}
+use lib.ListN.{length, take, drop, set, length-set}
 use lib.Seq.{take-all, take-suc-set, append-snoc, drop-set-lt, drop-drop}
 use lib.WfN.{Nat·lt-wfRel}
 
@@ -64,10 +64,6 @@ module _ {X S : Type 0} (OK : ℕ → S → Type 0) (gives : ℕ → S → List 
 
   pub goes-on-less : (t : Turn) → t .i < length ys → t .m - 1 < t .m
   goes-on-less t l = omega (arith, l, t .left)
-
-  -- the loop stops before the end: what is to come is what stands there already
-  pub stops : (t : Turn) → t .i < length ys → gives (suc (t .m - 1)) (t .s) ≡ drop (t .i) ys → t .zs ≡ goal
-  stops t l g = sym (to-write t l ∙ ap {B = List X} (λ r. take (t .i) (t .zs) ++ r) (g ∙ sym (t .kept)) ∙ take-append-drop (t .i) (t .zs))
 
   pub is-done : (t : Turn) → length ys ≤ t .i → gives 0 (t .s) ≡ [] → t .zs ≡ goal
   is-done t over g = sym (t .inv ∙ ap (λ (k : ℕ). take (t .i) (t .zs) ++ gives k (t .s)) none-left ∙ ap {B = List X} (λ r. take (t .i) (t .zs) ++ r) g ∙ append-nil (take (t .i) (t .zs)) ∙ take-all (t .i) (t .zs) all-done)

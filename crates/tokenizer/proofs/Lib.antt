@@ -22,7 +22,6 @@ pub mod Fields
 pub mod Lits
 pub mod Filling
 pub mod Reading
-pub mod Mapping
 pub mod Firsts
 pub mod Onward
 pub mod Turning

@@ -2,7 +2,7 @@
 --     Turn             i elements are read, and the state is s, which fits
 --     starts, goes-on, is-done     before the first turn; after one more; where none is to come.        reads    what a turn knows of element i
 -- Assumes nothing.
-use mathlib.Core.Path.{_≡_, refl, sym, _∙_, ap}
+use mathlib.Core.Path.{_≡_, sym, _∙_, ap}
 use Prim.Native.Nat.{ℕ, _+_, _-_, _≤_, _<_, zero-le}
 use native.Mathlib.Numerals.{add-one}
 use native.Mathlib.Omega.{arith}

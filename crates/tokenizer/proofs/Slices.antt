@@ -5,7 +5,7 @@
 --     opens-elem, closes-elem      [own (&κ mut [T] ys); [κ]_q; …]  to  [ys[i] in memory; Opened; …], and back at any value
 -- What a slice reference owns does not mention how MIR names its lifetime: `erased` stands for any name.
 -- Assumes `Given`.
-use mathlib.Core.Path.{_≡_, refl, sym, _∙_, ap, subst}
+use mathlib.Core.Path.{_≡_, sym, _∙_, ap, subst}
 use Prim.Native.Nat.{ℕ, _<_}
 use mathlib.Core.List.{List, [], _∷_}
 use lib.ListN.{length, getD, set, length-set}
@@ -19,7 +19,7 @@ use ghost.Atoms.{Atoms}
 use types.Kit.{Goal, Soaks, Given, Item, ‵, _⊛_, Seq, Step, step, _$_, use1, split, move, drop, fsplit, fjoin}
 use types.Share.{arr-parts}
 use denote.RattleType.{RattleType}
-use denote.Shadow.{pureL, pureI}
+use denote.Shadow.{pureI}
 use denote.Laws.{Is, shows}
 use denote.Memory.{cellAt, mem, shares}
 use denote.Ref.{RefT}

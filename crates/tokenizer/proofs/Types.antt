@@ -19,8 +19,6 @@ use Rattle.tokenizer.proofs.feed.Byte as Byte
 use Rattle.tokenizer.proofs.feed.Byte.Laws as Byte′
 use Rattle.tokenizer.proofs.feed.Feed as Feed
 use Rattle.tokenizer.proofs.feed.Feed.Laws as Feed′
-use Rattle.tokenizer.proofs.lines.Further as Further
-use Rattle.tokenizer.proofs.lines.Further.Laws as Further′
 use Rattle.tokenizer.proofs.partial_space_or_tab.Attempt as Attempt
 use Rattle.tokenizer.proofs.partial_space_or_tab.Attempt.Laws as Attempt′
 
@@ -59,15 +57,6 @@ fe-ty = Feed′.mir
 
 abbrev pub fe : Data Fe
 fe = data-of Feed.the-type Feed′.the-laws Feed′.the-copy Feed′.the-plain
-
-abbrev pub Fu : RattleType
-Fu = Further.the-row
-
-abbrev pub fu-ty : Ty
-fu-ty = Further′.mir
-
-abbrev pub fu : Data Fu
-fu = enum-data-of Further.the-type Further′.the-laws Further′.the-copy Further′.the-plain tt
 
 abbrev pub Am : RattleType
 Am = Attempt.the-row

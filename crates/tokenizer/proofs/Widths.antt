@@ -3,22 +3,20 @@
 -- Assumes nothing.
 use Prim.Native.Nat.{ℕ, zero, suc, _+_, _*_, _/_, _%_, _≤_, _<_}
 use mathlib.Core.Path.{_≡_, refl, ap, subst, sym, _∙_}
-use mathlib.Core.Bool.{Bool, true, false, cond, not, _&&_}
+use mathlib.Core.Bool.{Bool, true, false, cond, not}
 use mathlib.Core.List.{List, [], _∷_}
-use native.Mathlib.Nat.{add-zero, add-suc, suc-add}
-use native.Mathlib.Numerals.{add-one}
 use native.Mathlib.Omega.{arith}
-use borrow.Author.Tests.{eq-eqb, ne-eqb, eqb-true, eqb-false, leb-true, leb-false}
+use borrow.Author.Tests.{eq-eqb, eqb-true, eqb-false, leb-true, leb-false}
 use lib.Dec.{eqb, leb}
-use lib.ListN.{length, drop}
+use lib.ListN.{drop}
 use lib.Seq.{drop-drop}
 use Rattle.tokenizer.specs.declared.event.Point.{Point}
 use Rattle.tokenizer.specs.Bytes.{kindOf, isEnd}
 use Rattle.tokenizer.specs.Points.{columnAfter, columnPast, past}
 use Rattle.tokenizer.specs.Lines.{lineBody, indent}
-use Rattle.tokenizer.specs.Feed.{unitOf, tabUnit, onward, Fed}
+use Rattle.tokenizer.specs.Feed.{unitOf}
 use Rattle.tokenizer.specs.Spaces.{spaceAt, nextUnit, spacesPast, spaceEnds}
-use Rattle.tokenizer.specs.Moves.{aheadOf, restOf, Inside}
+use Rattle.tokenizer.specs.Moves.{aheadOf, restOf}
 use Rattle.tokenizer.proofs.Bytes.{no-end}
 use Rattle.tokenizer.proofs.Runs.{space-on}
 use Rattle.tokenizer.proofs.Ahead.{past-none, past-append}
@@ -200,7 +198,3 @@ ends-within s n p f = go (leb e (p .column + n)) refl
     go : (t : Bool) → leb e (p .column + n) ≡ t → spaceEnds s n p ≡ t
     go true h = ap not (ap (spaceAt s) (run-whole s n p f (leb-true e (p .column + n) h)) ∙ widths (drop (p .index) s) s n p refl f .bare)
     go false h = ap not (run-part s n p f (leb-false e (p .column + n) h))
-
--- a point between two bytes is one of the feed
-pub inside-fed : (s : List ℕ) (p : Point) → Inside s p → Fed s p
-inside-fed s p h = record { short = h .short; within = h .within; narrow = omega (arith, h .narrow); lined = h .lined; inner = omega (arith, h .flat) }

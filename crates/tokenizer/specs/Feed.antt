@@ -1,7 +1,7 @@
 -- The feed, unit by unit: what is read at a point, and the point after it.
 use Prim.Native.Nat.{ℕ, _+_, _-_, _*_, _%_, _≤_}
 use mathlib.Core.List.{List, [], _∷_}
-use mathlib.Core.Bool.{Bool, true, false, cond, _&&_, not}
+use mathlib.Core.Bool.{Bool, cond, _&&_, not}
 use lib.Dec.{eqb}
 use lib.ListN.{length, drop, getD}
 use Rattle.tokenizer.specs.declared.event.Point.{Point}

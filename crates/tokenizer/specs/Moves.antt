@@ -6,8 +6,6 @@ use mathlib.Core.Bool.{cond}
 use lib.Dec.{eqb}
 use lib.ListN.{length, drop, getD}
 use Rattle.tokenizer.specs.declared.event.Point.{Point}
-use Rattle.tokenizer.specs.declared.lines.Further.{Further}
-use Rattle.tokenizer.specs.declared.lines.Further.the-variants.{More, Last}
 use Rattle.tokenizer.specs.Points.{past, nextLine}
 use Rattle.tokenizer.specs.Lines.{Line, lineBody, lineOf}
 
@@ -26,10 +24,6 @@ lineAt s p = lineOf (drop (p .index) s)
 -- where the next line starts
 abbrev pub after : List ℕ → Point → Point
 after s p = nextLine (past p (restOf s p)) (lineAt s p .end)
-
--- the next line, or that there is none
-abbrev pub furtherOf : List ℕ → Point → Further
-furtherOf s p = cond (eqb (lineAt s p .end) 0) Last (More (after s p))
 
 -- a point between two bytes of a sheet that is not too long: no column is further right than tabs can take it, and each line end took a byte
 pub record Inside (s : List ℕ) (p : Point) : Type 0 where

@@ -8,13 +8,7 @@ ghost use Prim.Native.Nat.{_≤_, _+_};
 ghost use lib.ListN.{length, drop};
 ghost use Rattle.tokenizer.specs.Bytes.{kindOf};
 ghost use Rattle.tokenizer.specs.Lines.{startsLF, lineBody, endAt, endsLine, startsLine, lineNumber, blank};
-ghost use Rattle.tokenizer.specs.Moves.{Inside, restOf, furtherOf};
-
-// Where the next line starts, or that there is none.
-pub enum Further {
-    More(Point),
-    Last,
-}
+ghost use Rattle.tokenizer.specs.Moves.{Inside, restOf};
 
 // Whether a line feed stands at a place.
 pub fn starts_lf(s: &[u8], at: usize) -> bool
@@ -57,24 +51,6 @@ pub fn line_stop(s: &[u8], at: usize) -> usize
         i += 1;
     }
     i
-}
-
-// The line after the one that a point is in.
-pub fn line_after(s: &[u8], p: Point) -> Further
-    requires { ⌜ Inside (now s) p ⌝ }
-    ensures { λ r. ⌜ r ≡ furtherOf (now (s .entry)) p ⌝ }
-{
-    let e = line_stop(s, p.index as usize);
-    let n = line_end(s, e);
-    if n == 0 {
-        return Further::Last;
-    }
-    Further::More(Point {
-        line: p.line + 1,
-        column: 1,
-        index: e as u32 + n,
-        vs: 0,
-    })
 }
 
 // Whether the line has nothing but spaces and tabs from a point on.

@@ -1,30 +1,27 @@
 -- `pieces::head_row` meets its contract: what is counted and what is to come make the same sums. The measure is the bytes left.
 -- Assumes nothing.
 use Prim.Native.Nat.{_+_, _-_}
-use mathlib.Core.Bool.{false, not}
+use mathlib.Core.Bool.{not}
 use mathlib.Core.Path.{_≡_, refl, ap, sym, _∙_}
 use native.Mathlib.Omega.{arith}
 use borrow.Author.Needs.{needs}
 use lib.Dec.{eqb}
 use lib.ListN.{length}
 use denote.Ref.{now}
-use Rattle.tokenizer.specs.Bytes.{kindOf}
 use Rattle.tokenizer.proofs.Ahead.{Front, goes}
-use Rattle.gfm_table.specs.Rows.{rowPieces}
 use Rattle.gfm_table.proofs.Count.{begun}
-use Rattle.gfm_table.proofs.Passing.{lineFrom, pieces-few, Passes, no-pieces, passes-space, passes-divider, passes-data}
+use Rattle.gfm_table.proofs.Passing.{Passes, no-pieces, passes-space, passes-divider, passes-data}
 use Rattle.gfm_table.proofs.HeadRows.{solidFrom, solids-few, cells-few, few-one, past-space, solid-fewer, cells-fewer, no-solids, head-read}
 use Rattle.gfm_table.proofs.pieces.head_row.Statement.{statement}
 use Rattle.gfm_table.proofs.pieces.head_row.Tie as tie
 
 abbrev Inv-loop : tie.InvT-loop
-Inv-loop s at i₀ n₀ size₀ seen₀ b₀ i n size seen b =
-    (n + length (rowPieces kindOf false (lineFrom s i)) ≡ n₀ + length (rowPieces kindOf false (lineFrom s i₀)))
-    × (size + begun seen (solidFrom s i) ≡ size₀ + begun seen₀ (solidFrom s i₀))
+Inv-loop s at i₀ size₀ seen₀ b₀ i size seen b =
+    (size + begun seen (solidFrom s i) ≡ size₀ + begun seen₀ (solidFrom s i₀))
     × (b + length (solidFrom s i) ≡ b₀ + length (solidFrom s i₀))
 
 abbrev μ-loop : tie.MeasureT-loop
-μ-loop s at i₀ n₀ size₀ seen₀ b₀ i n size seen b = length s - i
+μ-loop s at i₀ size₀ seen₀ b₀ i size seen b = length s - i
 
 spaces-end-requires : tie.Need-spaces-end-requires Inv-loop μ-loop
 spaces-end-requires c κs = search needs
@@ -36,7 +33,7 @@ one-if-requires : tie.Need-one-if-requires Inv-loop μ-loop
 one-if-requires c κs = search needs
 
 loop-holds : tie.Need-loop-holds Inv-loop μ-loop
-loop-holds c = (refl, refl, refl)
+loop-holds c = (refl, refl)
 
 kind-at-requires-2 : tie.Need-kind-at-requires-2 Inv-loop μ-loop
 kind-at-requires-2 c κs = search needs
@@ -54,11 +51,6 @@ spaces-end-requires-2 c κs = search needs
 space : (c : tie.After-spaces-end2 Inv-loop μ-loop) → Passes (now (c .before .before .before .before .before .before .before .before .args .s)) (c .before .before .before .loop .i) (c .spaces-end2 .result) 1
 space c = passes-space _ _ _ (spaced (c .before)) (c .spaces-end2 .ensures)
 
-add-n : tie.Need-add-n Inv-loop μ-loop
-add-n c =
-    let a = c .before .before .before .before .before .before .before .before in
-    omega (arith, space c .fewer, c .before .before .before .loop .inv .0, pieces-few (now (a .args .s)) (a .args .at) (a .pre .0) (a .pre .1))
-
 loop-less : tie.Need-loop-less Inv-loop μ-loop
 loop-less c = let f = spaced (c .before) in omega (arith, f .below, space c .onward)
 
@@ -67,7 +59,7 @@ loop-again c =
     let l = c .before .before .before .loop in
     let m = space c in
     let e = past-space _ _ _ m in
-    (omega (arith, m .fewer, l .inv .0), omega (arith, ap (begun (l .seen)) e, l .inv .1), omega (arith, ap length e, l .inv .2))
+    (omega (arith, ap (begun (l .seen)) e, l .inv .0), omega (arith, ap length e, l .inv .1))
 
 -- the end of the line
 returns : tie.Need-returns Inv-loop μ-loop
@@ -76,8 +68,8 @@ returns c =
     let k = c .before .before .before .before in
     let s = now (k .before .before .before .args .s) in
     let e = no-pieces s (l .i) (sym (c .before .kind-at2 .ensures) ∙ c .match .keys2) in
-    let z = no-solids s (l .i) (l .seen) (e .0) in
-    head-read s _ _ _ _ _ _ (k .before .spaces-end .ensures) (k .kind-at .ensures) (omega (arith, e .0, l .inv .0)) (omega (arith, z .0, l .inv .1)) (omega (arith, z .1, l .inv .2, c .before .before .before .one-if .ensures))
+    let z = no-solids s (l .i) (l .seen) e in
+    head-read s _ _ _ _ _ (k .before .spaces-end .ensures) (k .kind-at .ensures) (omega (arith, z .0, l .inv .0)) (omega (arith, z .1, l .inv .1, c .before .before .before .one-if .ensures))
 
 -- a divider
 divided : (c : tie.At-match-keys3 Inv-loop μ-loop) → Front (now (c .before .before .before .before .before .before .before .args .s)) (c .before .before .loop .i) 3
@@ -89,11 +81,6 @@ add-i c = let f = divided c in omega (arith, f .below)
 divider : (c : tie.At-match-keys3 Inv-loop μ-loop) → Passes (now (c .before .before .before .before .before .before .before .args .s)) (c .before .before .loop .i) (c .before .before .loop .i + 1) 10
 divider c = passes-divider _ _ _ (divided c) refl
 
-add-n-2 : tie.Need-add-n-2 Inv-loop μ-loop
-add-n-2 c =
-    let a = c .before .before .before .before .before .before .before in
-    omega (arith, divider c .fewer, c .before .before .loop .inv .0, pieces-few (now (a .args .s)) (a .args .at) (a .pre .0) (a .pre .1))
-
 one-if-requires-2 : tie.Need-one-if-requires-2 Inv-loop μ-loop
 one-if-requires-2 c κs = search needs
 
@@ -102,14 +89,14 @@ add-size c =
     let l = c .before .before .before .loop in
     let k = c .before .before .before .before .before in
     let a = k .before .before .before in
-    omega (arith, c .one-if2 .ensures, cells-fewer _ _ _ 10 refl (divider (c .before)) (l .seen), l .inv .1, cells-few (now (a .args .s)) (a .args .at) (a .pre .0) (a .pre .1) (not (eqb (k .kind-at .result) 3)))
+    omega (arith, c .one-if2 .ensures, cells-fewer _ _ _ 10 refl (divider (c .before)) (l .seen), l .inv .0, cells-few (now (a .args .s)) (a .args .at) (a .pre .0) (a .pre .1) (not (eqb (k .kind-at .result) 3)))
 
 add-size-b : tie.Need-add-size-b Inv-loop μ-loop
 add-size-b c =
     let l = c .before .before .before .loop in
     let o = c .before .before .before .before in
     let a = o .before .before .before .before in
-    omega (arith, few-one (not (eqb (o .before .kind-at .result) 3)) _ (o .one-if .ensures), solid-fewer _ _ _ 10 refl (divider (c .before)), l .inv .2, solids-few (now (a .args .s)) (a .args .at) (a .pre .0) (a .pre .1))
+    omega (arith, few-one (not (eqb (o .before .kind-at .result) 3)) _ (o .one-if .ensures), solid-fewer _ _ _ 10 refl (divider (c .before)), l .inv .1, solids-few (now (a .args .s)) (a .args .at) (a .pre .0) (a .pre .1))
 
 loop-less-2 : tie.Need-loop-less-2 Inv-loop μ-loop
 loop-less-2 c = let f = divided (c .before) in omega (arith, f .below)
@@ -118,7 +105,7 @@ loop-again-2 : tie.Need-loop-again-2 Inv-loop μ-loop
 loop-again-2 c =
     let l = c .before .before .before .loop in
     let m = divider (c .before) in
-    (omega (arith, m .fewer, l .inv .0), omega (arith, c .one-if2 .ensures, cells-fewer _ _ _ 10 refl m (l .seen), l .inv .1), omega (arith, solid-fewer _ _ _ 10 refl m, l .inv .2))
+    (omega (arith, c .one-if2 .ensures, cells-fewer _ _ _ 10 refl m (l .seen), l .inv .0), omega (arith, solid-fewer _ _ _ 10 refl m, l .inv .1))
 
 -- data
 texted : (c : tie.At-match-rest Inv-loop μ-loop) → Front (now (c .before .before .before .before .before .before .before .args .s)) (c .before .before .loop .i) (c .before .kind-at2 .result)
@@ -130,11 +117,6 @@ text-end-requires c κs = search needs
 text : (c : tie.After-text-end Inv-loop μ-loop) → Passes (now (c .before .before .before .before .before .before .before .before .args .s)) (c .before .before .before .loop .i) (c .text-end .result) 3
 text c = passes-data _ _ _ _ (texted (c .before)) (c .before .match .rest .0 .0 .1) (c .before .match .rest .1) (c .text-end .ensures)
 
-add-n-3 : tie.Need-add-n-3 Inv-loop μ-loop
-add-n-3 c =
-    let a = c .before .before .before .before .before .before .before .before in
-    omega (arith, text c .fewer, c .before .before .before .loop .inv .0, pieces-few (now (a .args .s)) (a .args .at) (a .pre .0) (a .pre .1))
-
 one-if-requires-3 : tie.Need-one-if-requires-3 Inv-loop μ-loop
 one-if-requires-3 c κs = search needs
 
@@ -143,14 +125,14 @@ add-size-2 c =
     let l = c .before .before .before .before .loop in
     let k = c .before .before .before .before .before .before in
     let a = k .before .before .before in
-    omega (arith, c .one-if3 .ensures, cells-fewer _ _ _ 3 refl (text (c .before)) (l .seen), l .inv .1, cells-few (now (a .args .s)) (a .args .at) (a .pre .0) (a .pre .1) (not (eqb (k .kind-at .result) 3)))
+    omega (arith, c .one-if3 .ensures, cells-fewer _ _ _ 3 refl (text (c .before)) (l .seen), l .inv .0, cells-few (now (a .args .s)) (a .args .at) (a .pre .0) (a .pre .1) (not (eqb (k .kind-at .result) 3)))
 
 add-size-b-2 : tie.Need-add-size-b-2 Inv-loop μ-loop
 add-size-b-2 c =
     let l = c .before .before .before .before .loop in
     let o = c .before .before .before .before .before in
     let a = o .before .before .before .before in
-    omega (arith, few-one (not (eqb (o .before .kind-at .result) 3)) _ (o .one-if .ensures), solid-fewer _ _ _ 3 refl (text (c .before)), l .inv .2, solids-few (now (a .args .s)) (a .args .at) (a .pre .0) (a .pre .1))
+    omega (arith, few-one (not (eqb (o .before .kind-at .result) 3)) _ (o .one-if .ensures), solid-fewer _ _ _ 3 refl (text (c .before)), l .inv .1, solids-few (now (a .args .s)) (a .args .at) (a .pre .0) (a .pre .1))
 
 loop-less-3 : tie.Need-loop-less-3 Inv-loop μ-loop
 loop-less-3 c = let f = texted (c .before .before) in omega (arith, f .below, text (c .before) .onward)
@@ -159,7 +141,7 @@ loop-again-3 : tie.Need-loop-again-3 Inv-loop μ-loop
 loop-again-3 c =
     let l = c .before .before .before .before .loop in
     let m = text (c .before) in
-    (omega (arith, m .fewer, l .inv .0), omega (arith, c .one-if3 .ensures, cells-fewer _ _ _ 3 refl m (l .seen), l .inv .1), omega (arith, solid-fewer _ _ _ 3 refl m, l .inv .2))
+    (omega (arith, c .one-if3 .ensures, cells-fewer _ _ _ 3 refl m (l .seen), l .inv .0), omega (arith, solid-fewer _ _ _ 3 refl m, l .inv .1))
 
 pub head-row-spec : {M : Type 1} → statement M
 head-row-spec =
@@ -174,19 +156,16 @@ head-row-spec =
     kind-at-requires-2
     add-spaces-end
     spaces-end-requires-2
-    add-n
     loop-less
     loop-again
     returns
     add-i
-    add-n-2
     one-if-requires-2
     add-size
     add-size-b
     loop-less-2
     loop-again-2
     text-end-requires
-    add-n-3
     one-if-requires-3
     add-size-2
     add-size-b-2
