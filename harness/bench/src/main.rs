@@ -40,25 +40,28 @@ fn asked() -> Option<Asked> {
     Some(asked)
 }
 
-/// Both readers on one sheet.
+/// Both readers on one sheet, and ours on the typical sheet of the same size.
 fn measured(shape: &'static Shape, size: usize) -> Measured {
-    let sheet = (shape.make)(size);
+    let (sheet, usual) = ((shape.make)(size), (shapes::TYPICAL[0].make)(size));
     let counts = counts_of(&sheet);
     let walk = Walk::new(&sheet);
     assert_eq!(crate_reads(&walk), counts[1], "{}, {size}: both readers find as many raw events", shape.name);
     let (mut exact, mut spare) = (Lent::exactly(counts, 0), Lent::exactly(counts, 4));
-    let [reference, ours, more] = in_turn([
+    let mut beside = Lent::exactly(counts_of(&usual), 0);
+    let [reference, ours, more, typical] = in_turn([
         &mut || _ = black_box(crate_reads(&walk)),
         &mut || _ = black_box(exact.read(black_box(&sheet))),
         &mut || _ = black_box(spare.read(black_box(&sheet))),
+        &mut || _ = black_box(beside.read(black_box(&usual))),
     ]);
+    let typical = typical.each(usual.len());
     let [reference, ours, spare] = [reference, ours, more].map(|figures| figures.each(sheet.len()));
     let reference = walk.has_text().then_some(reference);
     let whole = (shape.name == shapes::TYPICAL[0].name).then(|| {
         let [whole] = in_turn([&mut || _ = black_box(crate_does_all(&walk))]);
         whole.each(sheet.len())
     });
-    Measured { shape, size, raw: counts[1], results: counts[2], reference, whole, ours, spare }
+    Measured { shape, size, raw: counts[1], results: counts[2], reference, whole, ours, spare, typical }
 }
 
 /// One reader so often on one sheet.

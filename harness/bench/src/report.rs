@@ -17,6 +17,8 @@ pub struct Measured {
     pub ours: Figures,
     /// Our sheet call, with a quarter more.
     pub spare: Figures,
+    /// Our sheet call on the typical sheet of this size, in turn with the others.
+    pub typical: Figures,
 }
 
 /// The name of a table column for a size.
@@ -60,21 +62,18 @@ fn escaped(text: &str) -> String {
 /// All shapes at one size.
 pub fn at_size(all: &[Measured], size: usize) -> String {
     let here: Vec<&Measured> = all.iter().filter(|measured| measured.size == size).collect();
-    let Some(typical) = here.first() else {
-        return String::new();
-    };
     let names = ["shape", "raw events a byte", "results a byte", "crate least", "crate median", "ours least"];
     let more = ["ours median", "ours, spare slots", "ours : crate", "by medians", "ours : typical"];
     let mut text = heading(&strings(&[&names[..], &more[..]].concat()), 1);
     for measured in &here {
-        let Measured { shape, reference, ours, spare, .. } = measured;
+        let Measured { shape, reference, ours, spare, typical, .. } = measured;
         let mut cells = vec![shape.name.to_string()];
         cells.extend([measured.raw, measured.results].map(|count| number(count as f64 / size as f64)));
         cells.extend([reference.map(|figures| figures.least), reference.map(|figures| figures.median)].map(or_none));
         cells.extend([ours.least, ours.median, spare.least].map(number));
         cells.push(or_none(reference.map(|figures| ours.least / figures.least)));
         cells.push(or_none(reference.map(|figures| ours.median / figures.median)));
-        cells.push(number(ours.least / typical.ours.least));
+        cells.push(number(ours.least / typical.least));
         text += &line(&cells);
     }
     text
@@ -160,7 +159,7 @@ pub fn summary(all: &[Measured]) -> String {
         format!("{name}, the crate's reading alone: {}", or_none(typical.reference.map(|figures| figures.least))),
         format!("{name}, ratio: {}, by medians {}", or_none(to_crate(typical)), or_none(medians(typical))),
         format!("{name}, exponent: {}", or_none(growth(all, typical.shape.name, ours).exponent)),
-        format!("greatest ratio to typical: {}", greatest(&here, |found| Some(found.ours.least / typical.ours.least))),
+        format!("greatest ratio to typical: {}", greatest(&here, |found| Some(found.ours.least / found.typical.least))),
         format!("greatest ratio to the crate's reading alone: {}", greatest(&here, to_crate)),
         format!("greatest exponent: {}", greatest(&here, |found| growth(all, found.shape.name, ours).exponent)),
         format!("greatest 64 KB : 8 KB: {}", greatest(&here, |found| growth(all, found.shape.name, ours).ratio)),
