@@ -19,8 +19,8 @@ use Rattle.gfm_table.specs.Places.{pointIn}
 use Rattle.sheet.specs.declared.seek.Opening.{Opening}
 use Rattle.sheet.specs.declared.spans.Where.{Where}
 use Rattle.sheet.specs.declared.spans.Tail.{Tail}
-use Rattle.sheet.specs.From.{AtLine, openedAt, Opens, here}
-use Rattle.sheet.specs.Spans.{startOf, lastPoint, lastStop, EndsBody, Comes}
+use Rattle.sheet.specs.From.{AtLine, openingPoint, Opens, here}
+use Rattle.sheet.specs.Spans.{startOf, lastPoint, lastStop, EndsBody, FirstTable}
 use Rattle.sheet.proofs.From.{past-last, after-line}
 use Rattle.sheet.proofs.Bodies.{next-lines}
 use Rattle.sheet.proofs.Bounds.{aligned-length}
@@ -54,15 +54,15 @@ module _ (s : List ℕ) (p : Point) where
 
 module _ (s : List ℕ) (on : Bool) (w : Where) (o : Opening) (h : Opens s on (startOf w) o) where
   -- the line of its delimiter row
-  row-point : after s (openedAt o) ≡ pointIn (o .line + 1) (o .delimiter) 1
+  row-point : after s (openingPoint o) ≡ pointIn (o .line + 1) (o .delimiter) 1
   row-point i = record { line = o .line + 1; column = 1; index = sym (h .delimiter) i; vs = 0 }
 
   pub row-line : AtLine s (pointIn (o .line + 1) (o .delimiter) 1)
-  row-line = subst (AtLine s) row-point (after-line s (openedAt o) (h .ended) (h .at .inside))
+  row-line = subst (AtLine s) row-point (after-line s (openingPoint o) (h .ended) (h .at .inside))
 
   -- the table that a head opens comes next
   pub comes-of : (r : Tail) → EndsBody s (pointIn (o .line + 1) (o .delimiter) 1) r
-      → Comes s on (record { found = true; line = o .line; at = o .at; delimiter = o .delimiter; cells = o .columns; stop = r .stop; next = r .next }) (heads kindOf on (linesFrom s (startOf w)))
+      → FirstTable s on (record { found = true; line = o .line; at = o .at; delimiter = o .delimiter; cells = o .columns; stop = r .stop; next = r .next }) (heads kindOf on (linesFrom s (startOf w)))
   comes-of r b =
       rw (h .tables)
       (record {
@@ -71,7 +71,7 @@ module _ (s : List ℕ) (on : Bool) (w : Where) (o : Opening) (h : Opens s on (s
         ended = h .ended;
         table = refl;
         delimiter = h .delimiter;
-        cells = h .columns ∙ ap (λ (j : ℕ). length (values kindOf (lineBody (drop j s)))) (h .delimiter) ∙ sym (aligned-length (values kindOf (restOf s (after s (openedAt o)))));
+        cells = h .columns ∙ ap (λ (j : ℕ). length (values kindOf (lineBody (drop j s)))) (h .delimiter) ∙ sym (aligned-length (values kindOf (restOf s (after s (openingPoint o)))));
         stop = b .stop ∙ ap (lastStop s) (sym row-point);
         next = b .at;
         tables = ap (λ (p : Point). rows kindOf on (linesPast s p)) row-point ∙ b .tables on;

@@ -22,14 +22,13 @@ use Rattle.sheet.specs.declared.spans.Span.{Span}
 use Rattle.sheet.specs.declared.write.Counts.{Counts}
 use Rattle.sheet.specs.declared.write.Tabled.{Tabled}
 use Rattle.sheet.specs.Walk.{Found, tables, heads, rawOf, resolvedOf, alignedOf}
-use Rattle.sheet.specs.Spans.{startOf, headOf, Spanned, Comes}
+use Rattle.sheet.specs.Spans.{startOf, headOf, Spanned, FirstTable}
 use Rattle.sheet.specs.Placing.{tableAt}
-use Rattle.sheet.specs.Aligning.{alignmentsAt, filledIf}
+use Rattle.sheet.specs.Aligning.{lineAlignments, filledIf}
 use Rattle.sheet.specs.Writing.{tablesRead, countsOf, oneMore, alignedFrom}
 use Rattle.sheet.proofs.From.{after-line}
 use Rattle.sheet.proofs.Bounds.{from-tally, tally}
 use Rattle.sheet.proofs.Doubling.{table-doubles}
-use Rattle.sheet.proofs.Tests.{by-cases}
 
 -- ## The loop's state
 
@@ -94,7 +93,7 @@ module _ (s : List ℕ) (on : Bool) where
 
   -- the tables fs are left
   pub record Facts (c : Tabled) (fs : List Found) : Type 0 where
-    pub comes : Comes s on (c .next) fs
+    pub comes : FirstTable s on (c .next) fs
     pub tables : c .counts .tables + length fs ≡ length all
     pub raw : c .counts .raw + length (rawOf fs) ≡ length (rawOf all)
     pub results : c .counts .results + length (resolvedOf fs) ≡ length (resolvedOf all)
@@ -111,7 +110,7 @@ module _ (s : List ℕ) (on : Bool) where
   abbrev pub none : Counts
   none = record { tables = 0; raw = 0; results = 0; aligned = 0 }
 
-  pub begins-good : (c : Tabled) → Comes s on (c .next) all → c .counts ≡ none → Facts c all
+  pub begins-good : (c : Tabled) → FirstTable s on (c .next) all → c .counts ≡ none → Facts c all
   begins-good c h e = rw e (record { comes = h; tables = omega arith; raw = omega arith; results = omega arith; aligned = omega arith })
 
   pub begins-told : (ys ms : List Event) (ks : List ℕ) (c : Tabled) → c .counts ≡ none → Told ys ms ks c all ys ms ks
@@ -124,7 +123,7 @@ module _ (s : List ℕ) (on : Bool) where
     pub is : fs ≡ f ∷ others
     pub span : Spanned s on (c .next) f others
 
-  pub next : (c : Tabled) (fs : List Found) → Comes s on (c .next) fs → c .next .found ≡ true → Next c fs
+  pub next : (c : Tabled) (fs : List Found) → FirstTable s on (c .next) fs → c .next .found ≡ true → Next c fs
   next c [] h t = absurd (true≢false (sym t ∙ h))
   next c (f ∷ fs) h t = record { f = f; others = fs; is = refl; span = h }
 
@@ -136,10 +135,10 @@ module _ (s : List ℕ) (on : Bool) where
     table-is = ap {B = Table} (λ (x : Found). x .table) (k .span .table)
 
     abbrev pub its : List ℕ
-    its = alignmentsAt s (c .next .delimiter)
+    its = lineAlignments s (c .next .delimiter)
 
     pub its-are : k .f .aligned ≡ its
-    its-are = ap {B = List ℕ} (λ (x : Found). x .aligned) (k .span .table) ∙ ap (alignmentsAt s) (sym (k .span .delimiter))
+    its-are = ap {B = List ℕ} (λ (x : Found). x .aligned) (k .span .table) ∙ ap (lineAlignments s) (sym (k .span .delimiter))
 
     raw-is : rawOf fs ≡ rawTable table ++ rawOf (k .others)
     unfolding rawOf
@@ -192,12 +191,12 @@ module _ (s : List ℕ) (on : Bool) where
     abbrev pub onward : Counts
     onward = oneMore (c .counts) (c .counts .raw + length (rawTable table)) (c .counts .results + length (resolvedTable table)) (c .next .cells)
 
-    module _ (d : Tabled) (h : Comes s on (d .next) (heads kindOf on (linesFrom s (startOf (c .next .next))))) (e : d .counts ≡ onward) where
+    module _ (d : Tabled) (h : FirstTable s on (d .next) (heads kindOf on (linesFrom s (startOf (c .next .next))))) (e : d .counts ≡ onward) where
       pub goes-good : Facts d (k .others)
       goes-good =
           rw e
           (record {
-            comes = subst (Comes s on (d .next)) (sym (k .span .tables)) h;
+            comes = subst (FirstTable s on (d .next)) (sym (k .span .tables)) h;
             tables = omega (arith, g .tables, tables-long);
             raw = omega (arith, g .raw, raw-long);
             results = omega (arith, g .results, resolved-long);
@@ -223,7 +222,7 @@ module _ (s : List ℕ) (on : Bool) where
     fewer = omega (arith, tables-long)
 
   -- none is left
-  left-none : (c : Tabled) (fs : List Found) → Comes s on (c .next) fs → c .next .found ≡ false → fs ≡ []
+  left-none : (c : Tabled) (fs : List Found) → FirstTable s on (c .next) fs → c .next .found ≡ false → fs ≡ []
   left-none c [] h t = refl
   left-none c (f ∷ fs) h t = absurd (true≢false (sym (h .found) ∙ t))
 

@@ -17,8 +17,8 @@ abbrev pub lineFrom : List ℕ → ℕ → List ℕ
 lineFrom s i = lineBody (drop i s)
 
 -- the alignments of the delimiter line at a place
-abbrev pub alignmentsAt : List ℕ → ℕ → List ℕ
-alignmentsAt s i = alignments kindOf (values kindOf (lineFrom s i))
+abbrev pub lineAlignments : List ℕ → ℕ → List ℕ
+lineAlignments s i = alignments kindOf (values kindOf (lineFrom s i))
 
 -- the alignments of the stretches from a place on, none for a last one that is empty
 abbrev pub alignsFrom : List ℕ → ℕ → List ℕ

@@ -37,18 +37,18 @@ columnsOf s on i d =
     cond (isDelimiterRow kindOf on (lineBody (drop d s)) && permitted kindOf on (lineBody (drop i s))) (columnsIf s i (length (values kindOf (lineBody (drop d s))))) 0
 
 -- where a head's line starts
-abbrev pub openedAt : Opening → Point
-openedAt o = pointIn (o .line) (o .at) 1
+abbrev pub openingPoint : Opening → Point
+openingPoint o = pointIn (o .line) (o .at) 1
 
 -- the tables from the line p on begin with the one that o opens
 pub record Opens (s : List ℕ) (on : Bool) (p : Point) (o : Opening) : Type 0 where
-  pub at : AtLine s (openedAt o)
-  pub ended : lineAt s (openedAt o) .end ≡ 0 → ⊥
-  pub delimiter : o .delimiter ≡ after s (openedAt o) .index
+  pub at : AtLine s (openingPoint o)
+  pub ended : lineAt s (openingPoint o) .end ≡ 0 → ⊥
+  pub delimiter : o .delimiter ≡ after s (openingPoint o) .index
   pub columns : o .columns ≡ length (values kindOf (lineBody (drop (o .delimiter) s)))
   pub tables :
       heads kindOf on (linesFrom s p)
-      ≡ found kindOf on (here s (openedAt o)) (here s (after s (openedAt o))) (linesPast s (after s (openedAt o))) ∷ rows kindOf on (linesPast s (after s (openedAt o)))
+      ≡ found kindOf on (here s (openingPoint o)) (here s (after s (openingPoint o))) (linesPast s (after s (openingPoint o))) ∷ rows kindOf on (linesPast s (after s (openingPoint o)))
 
 -- what is found, if a head is
 abbrev pub FindsIf : Bool → List ℕ → Bool → Point → Opening → Type 0

@@ -17,7 +17,7 @@ use Rattle.sheet.specs.declared.spans.Span.{Span}
 use Rattle.sheet.specs.Walk.{Found, found as foundAt, bodyRows, heads, rows}
 use Rattle.sheet.specs.From.{AtLine, here}
 
--- the first point of a line
+-- the point of a place where a line starts
 abbrev pub startOf : Where → Point
 startOf w = pointIn (w .line) (w .at) 1
 
@@ -52,6 +52,6 @@ pub record Spanned (s : List ℕ) (on : Bool) (t : Span) (f : Found) (fs : List 
   pub tables : fs ≡ heads kindOf on (linesFrom s (startOf (t .next)))
 
 -- the first of some tables comes, with its places, or that there is none
-abbrev pub Comes : List ℕ → Bool → Span → List Found → Type 0
-Comes s on t [] = t .found ≡ false
-Comes s on t (f ∷ fs) = Spanned s on t f fs
+abbrev pub FirstTable : List ℕ → Bool → Span → List Found → Type 0
+FirstTable s on t [] = t .found ≡ false
+FirstTable s on t (f ∷ fs) = Spanned s on t f fs

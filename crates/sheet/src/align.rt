@@ -5,7 +5,7 @@ ghost use mathlib.Core.Bool.{cond};
 ghost use Prim.Native.Nat.{_≤_, _<_, _+_};
 ghost use lib.Dec.{eqb};
 ghost use lib.ListN.{length};
-ghost use Rattle.sheet.specs.Aligning.{lineFrom, alignsFrom, alignmentsAt, endsOver, scanned, alignBy, filled, filledIf, zeroedFrom, Marked};
+ghost use Rattle.sheet.specs.Aligning.{lineFrom, alignsFrom, lineAlignments, endsOver, scanned, alignBy, filled, filledIf, zeroedFrom, Marked};
 
 // One stretch of a delimiter row: the kinds of its first and last byte that is no whitespace, 1 where there is none, and its end.
 pub struct Ends {
@@ -101,7 +101,7 @@ pub fn mark_at(s: &[u8], at: usize) -> Mark
 // Where a delimiter line's values start: after a leading divider.
 pub fn values_from(s: &[u8], at: usize) -> usize
     requires { ⌜ (length (now s) ≤ 65536) × (at ≤ length (now s)) ⌝ }
-    ensures { λ r. ⌜ (r ≤ length (now (s .entry))) × (alignsFrom (now (s .entry)) r ≡ alignmentsAt (now (s .entry)) at) ⌝ }
+    ensures { λ r. ⌜ (r ≤ length (now (s .entry))) × (alignsFrom (now (s .entry)) r ≡ lineAlignments (now (s .entry)) at) ⌝ }
 {
     let m = mark_at(s, at);
     if m.empty {
@@ -137,16 +137,16 @@ pub fn align_rest(s: &[u8], at: usize, slots: &mut [u8])
 
 // One table's alignments, from its delimiter line, into the first of the slots.
 pub fn align_line(s: &[u8], at: usize, slots: &mut [u8])
-    requires { ⌜ (length (now s) ≤ 65536) × (at ≤ length (now s)) × (length (alignmentsAt (now s) at) ≤ length (now slots)) ⌝ }
-    ensures { λ _. ⌜ now (slots .exit) ≡ filled 0 (alignmentsAt (now (s .entry)) at) (now (slots .entry)) ⌝ }
+    requires { ⌜ (length (now s) ≤ 65536) × (at ≤ length (now s)) × (length (lineAlignments (now s) at) ≤ length (now slots)) ⌝ }
+    ensures { λ _. ⌜ now (slots .exit) ≡ filled 0 (lineAlignments (now (s .entry)) at) (now (slots .entry)) ⌝ }
 {
     align_rest(s, values_from(s, at), slots);
 }
 
 // The same from a slot on, where there are slots enough: the slots that are left are lent on.
 pub fn align_from(s: &[u8], at: usize, cells: usize, slots: &mut [u8], n: usize)
-    requires { ⌜ (length (now s) ≤ 65536) × (at ≤ length (now s)) × (cells ≡ length (alignmentsAt (now s) at)) × (n + cells < 1000000000000) ⌝ }
-    ensures { λ _. ⌜ now (slots .exit) ≡ filledIf n (alignmentsAt (now (s .entry)) at) (now (slots .entry)) ⌝ }
+    requires { ⌜ (length (now s) ≤ 65536) × (at ≤ length (now s)) × (cells ≡ length (lineAlignments (now s) at)) × (n + cells < 1000000000000) ⌝ }
+    ensures { λ _. ⌜ now (slots .exit) ≡ filledIf n (lineAlignments (now (s .entry)) at) (now (slots .entry)) ⌝ }
 {
     if n + cells <= slots.len() {
         align_line(s, at, &mut slots[n..]);

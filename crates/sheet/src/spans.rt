@@ -12,7 +12,7 @@ ghost use Rattle.tokenizer.specs.Places.{linesFrom};
 ghost use Rattle.gfm_table.specs.Places.{pointIn};
 ghost use Rattle.sheet.specs.Walk.{heads};
 ghost use Rattle.sheet.specs.From.{AtLine};
-ghost use Rattle.sheet.specs.Spans.{startOf, EndsBody, Comes};
+ghost use Rattle.sheet.specs.Spans.{startOf, EndsBody, FirstTable};
 
 // Where a line starts: its number and its index.
 pub struct Where {
@@ -92,7 +92,7 @@ pub fn body_end(s: &[u8], line: u32, at: u32) -> Tail
 // The first table from a line on.
 pub fn table_from(s: &[u8], on: bool, w: Where) -> Span
     requires { ⌜ AtLine (now s) (startOf w) ⌝ }
-    ensures { λ r. ⌜ Comes (now (s .entry)) on r (heads kindOf on (linesFrom (now (s .entry)) (startOf w))) ⌝ }
+    ensures { λ r. ⌜ FirstTable (now (s .entry)) on r (heads kindOf on (linesFrom (now (s .entry)) (startOf w))) ⌝ }
 {
     let o = next_head(s, w.line, w.at, on);
     if o.found {

@@ -14,8 +14,8 @@ ghost use Rattle.tokenizer.specs.Places.{linesFrom};
 ghost use Rattle.tokenizer.specs.Slots.{wrote};
 ghost use Rattle.sheet.specs.Walk.{heads, rawOf, resolvedOf};
 ghost use Rattle.sheet.specs.From.{AtLine};
-ghost use Rattle.sheet.specs.Spans.{startOf, Comes};
-ghost use Rattle.sheet.specs.Aligning.{alignmentsAt, filledIf};
+ghost use Rattle.sheet.specs.Spans.{startOf, FirstTable};
+ghost use Rattle.sheet.specs.Aligning.{lineAlignments, filledIf};
 ghost use Rattle.sheet.specs.Writing.{tablesRead, countsOf, oneMore, alignedFrom};
 
 // How many tables, raw events, result events and alignments there are: the next slots.
@@ -34,7 +34,7 @@ pub struct Tabled {
 
 // The first table of a sheet, none where the sheet is too long.
 pub fn first_span(s: &[u8], on: bool) -> Span
-    ensures { λ r. ⌜ Comes (now (s .entry)) on r (tablesRead (now (s .entry)) on) ⌝ }
+    ensures { λ r. ⌜ FirstTable (now (s .entry)) on r (tablesRead (now (s .entry)) on) ⌝ }
 {
     if 65536 < s.len() {
         return Span::NONE;
@@ -44,7 +44,7 @@ pub fn first_span(s: &[u8], on: bool) -> Span
 
 // Before the first table.
 pub fn first_table(s: &[u8], on: bool) -> Tabled
-    ensures { λ r. ⌜ Comes (now (s .entry)) on (r .next) (tablesRead (now (s .entry)) on) × (r .counts ≡ record { tables = 0; raw = 0; results = 0; aligned = 0 }) ⌝ }
+    ensures { λ r. ⌜ FirstTable (now (s .entry)) on (r .next) (tablesRead (now (s .entry)) on) × (r .counts ≡ record { tables = 0; raw = 0; results = 0; aligned = 0 }) ⌝ }
 {
     Tabled {
         next: first_span(s, on),
@@ -60,7 +60,7 @@ pub fn first_table(s: &[u8], on: bool) -> Tabled
 // Behind a table, whose events end before the slots that are said.
 pub fn next_table(s: &[u8], on: bool, c: Tabled, raw: usize, results: usize) -> Tabled
     requires { ⌜ AtLine (now s) (startOf (c .next .next)) × (c .counts .tables < 1000000000000) × (c .counts .aligned + c .next .cells < 1000000000000) ⌝ }
-    ensures { λ r. ⌜ Comes (now (s .entry)) on (r .next) (heads kindOf on (linesFrom (now (s .entry)) (startOf (c .next .next))))
+    ensures { λ r. ⌜ FirstTable (now (s .entry)) on (r .next) (heads kindOf on (linesFrom (now (s .entry)) (startOf (c .next .next))))
         × (r .counts ≡ oneMore (c .counts) raw results (c .next .cells)) ⌝ }
 {
     let t = c.next;
@@ -79,8 +79,8 @@ pub fn next_table(s: &[u8], on: bool, c: Tabled, raw: usize, results: usize) -> 
 
 // The alignments of the next table, into the slots behind those before it.
 pub fn align_table(s: &[u8], c: Tabled, slots: &mut [u8])
-    requires { ⌜ (length (now s) ≤ 65536) × (c .next .delimiter ≤ length (now s)) × (c .next .cells ≡ length (alignmentsAt (now s) (c .next .delimiter))) × (c .counts .aligned + c .next .cells < 1000000000000) ⌝ }
-    ensures { λ _. ⌜ now (slots .exit) ≡ filledIf (c .counts .aligned) (alignmentsAt (now (s .entry)) (c .next .delimiter)) (now (slots .entry)) ⌝ }
+    requires { ⌜ (length (now s) ≤ 65536) × (c .next .delimiter ≤ length (now s)) × (c .next .cells ≡ length (lineAlignments (now s) (c .next .delimiter))) × (c .counts .aligned + c .next .cells < 1000000000000) ⌝ }
+    ensures { λ _. ⌜ now (slots .exit) ≡ filledIf (c .counts .aligned) (lineAlignments (now (s .entry)) (c .next .delimiter)) (now (slots .entry)) ⌝ }
 {
     let t = c.next;
     let n = c.counts;

@@ -7,7 +7,7 @@ use borrow.Author.Needs.{needs}
 use borrow.Rule.Slice.PartMut.{mid-len}
 use lib.ListN.{length}
 use denote.Ref.{now}
-use Rattle.sheet.specs.Aligning.{alignmentsAt}
+use Rattle.sheet.specs.Aligning.{lineAlignments}
 use Rattle.sheet.proofs.Slots.{put-filled, if-fits, if-not}
 use Rattle.sheet.proofs.align.align_from.Statement.{statement}
 use Rattle.sheet.proofs.align.align_from.Tie as tie
@@ -37,14 +37,14 @@ same-length c = search needs
 returns : tie.Need-returns
 returns c =
     let a = c .before .before .before .before .before .before .before in
-    let h : a .args .n + length (alignmentsAt (now (a .args .s)) (a .args .at)) ≤ length (now (a .args .slots)) = omega (arith, a .pre .2, c .before .before .before .before .if1 .taken) in
-    put-filled (a .args .n) (alignmentsAt (now (a .args .s)) (a .args .at)) (now (a .args .slots)) h _ (c .before .before .align-line .ensures) ∙ sym (if-fits (a .args .n) (alignmentsAt (now (a .args .s)) (a .args .at)) (now (a .args .slots)) h)
+    let h : a .args .n + length (lineAlignments (now (a .args .s)) (a .args .at)) ≤ length (now (a .args .slots)) = omega (arith, a .pre .2, c .before .before .before .before .if1 .taken) in
+    put-filled (a .args .n) (lineAlignments (now (a .args .s)) (a .args .at)) (now (a .args .slots)) h _ (c .before .before .align-line .ensures) ∙ sym (if-fits (a .args .n) (lineAlignments (now (a .args .s)) (a .args .at)) (now (a .args .slots)) h)
 
 returns-2 : tie.Need-returns-2
 returns-2 c =
     let a = c .before .before .before in
-    let h : length (now (a .args .slots)) < a .args .n + length (alignmentsAt (now (a .args .s)) (a .args .at)) = omega (arith, a .pre .2, c .if1 .left) in
-    sym (if-not (a .args .n) (alignmentsAt (now (a .args .s)) (a .args .at)) (now (a .args .slots)) h)
+    let h : length (now (a .args .slots)) < a .args .n + length (lineAlignments (now (a .args .s)) (a .args .at)) = omega (arith, a .pre .2, c .if1 .left) in
+    sym (if-not (a .args .n) (lineAlignments (now (a .args .s)) (a .args .at)) (now (a .args .slots)) h)
 
 pub align-from-spec : {M : Type 1} → statement M
 align-from-spec = tie.close (tie.spec add-if1 sub-align-line part-align-line-start part-align-line-end align-line-requires same-length returns returns-2)

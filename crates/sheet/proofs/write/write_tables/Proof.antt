@@ -9,9 +9,9 @@ use Rattle.gfm_table.specs.Places.{pointIn}
 use Rattle.edit_map.specs.Tables.{rawTable, resolvedTable}
 use Rattle.sheet.specs.Walk.{Found, heads, rawOf, resolvedOf}
 use Rattle.sheet.specs.From.{AtLine}
-use Rattle.sheet.specs.Spans.{startOf, headOf, lastPoint, lastStop, Comes}
+use Rattle.sheet.specs.Spans.{startOf, headOf, lastPoint, lastStop, FirstTable}
 use Rattle.sheet.specs.Placing.{writtenAt, Few, tableAt}
-use Rattle.sheet.specs.Aligning.{alignmentsAt, filledIf}
+use Rattle.sheet.specs.Aligning.{lineAlignments, filledIf}
 use Rattle.sheet.specs.Writing.{tablesRead, countsOf, oneMore, alignedFrom}
 use Rattle.sheet.proofs.Types.{Sn, sn, sn-ty, sn-line, sn-at, sn-stop, Ct, ct, ct-ty, ct-raw, ct-results, Tb, tb, tb-ty, tb-next, tb-counts, Wn, wn, wn-ty, wn-slot}
 use Rattle.tokenizer.proofs.Types.{Ev}
@@ -92,7 +92,7 @@ module _ {M : Type 1} (𝓤 : URA M) (H : Heap 𝓤) (A : Atoms 𝓤) (W : Given
   abbrev to-write-align-table : (κ₁ : Lft) (q₁ : Share) (b₁ o₁ n₁ : ℕ) (γ₁ : GName) (ys₁ : List (u8 .Denot)) (a₂ : Tb .Denot) (κ₃ : Lft) (q₃ : Share) (b₃ o₃ n₃ : ℕ) (γ₃ : GName) (ys₃ : List (u8 .Denot)) → WriteAlignTable′ 𝓤 H A mem run′ .Ghost
   to-write-align-table κ₁ q₁ b₁ o₁ n₁ γ₁ ys₁ a₂ κ₃ q₃ b₃ o₃ n₃ γ₃ ys₃ = (((κ₁, (κ₃, tt)), (q₁, (q₃, tt)), tt, (sl b₁ o₁ γ₁ ys₁, (a₂, (sl b₃ o₃ γ₃ ys₃, tt))), (sliceVal (b₁, o₁) n₁ ∷ [], (tb .val a₂ ∷ [], (sliceVal (b₃, o₃) n₃ ∷ [], tt)))), tt)
 
-  asks-write-align-table : (κ₁ : Lft) (q₁ : Share) (b₁ o₁ n₁ : ℕ) (γ₁ : GName) (ys₁ : List (u8 .Denot)) (a₂ : Tb .Denot) (κ₃ : Lft) (q₃ : Share) (b₃ o₃ n₃ : ℕ) (γ₃ : GName) (ys₃ : List (u8 .Denot)) (a₂-ok : Is Tb a₂ (vals tb a₂)) (asked : (length ys₁ ≤ 65536) × (a₂ .next .delimiter ≤ length ys₁) × (a₂ .next .cells ≡ length (alignmentsAt ys₁ (a₂ .next .delimiter))) × (a₂ .counts .aligned + a₂ .next .cells < 1000000000000)) → ent 𝓤 (⋆ 𝓤 H A (‵ (Shr u8 κ₁ b₁ o₁ n₁ γ₁ ys₁) ∷ ‵ (flft κ₁ q₁) ∷ ‵ (Mut u8 κ₃ b₃ o₃ n₃ γ₃ ys₃) ∷ ‵ (flft κ₃ q₃) ∷ [])) (⋆ 𝓤 H A (raw (WriteAlignTable′ 𝓤 H A mem run′ .pre (to-write-align-table κ₁ q₁ b₁ o₁ n₁ γ₁ ys₁ a₂ κ₃ q₃ b₃ o₃ n₃ γ₃ ys₃)) ∷ []))
+  asks-write-align-table : (κ₁ : Lft) (q₁ : Share) (b₁ o₁ n₁ : ℕ) (γ₁ : GName) (ys₁ : List (u8 .Denot)) (a₂ : Tb .Denot) (κ₃ : Lft) (q₃ : Share) (b₃ o₃ n₃ : ℕ) (γ₃ : GName) (ys₃ : List (u8 .Denot)) (a₂-ok : Is Tb a₂ (vals tb a₂)) (asked : (length ys₁ ≤ 65536) × (a₂ .next .delimiter ≤ length ys₁) × (a₂ .next .cells ≡ length (lineAlignments ys₁ (a₂ .next .delimiter))) × (a₂ .counts .aligned + a₂ .next .cells < 1000000000000)) → ent 𝓤 (⋆ 𝓤 H A (‵ (Shr u8 κ₁ b₁ o₁ n₁ γ₁ ys₁) ∷ ‵ (flft κ₁ q₁) ∷ ‵ (Mut u8 κ₃ b₃ o₃ n₃ γ₃ ys₃) ∷ ‵ (flft κ₃ q₃) ∷ [])) (⋆ 𝓤 H A (raw (WriteAlignTable′ 𝓤 H A mem run′ .pre (to-write-align-table κ₁ q₁ b₁ o₁ n₁ γ₁ ys₁ a₂ κ₃ q₃ b₃ o₃ n₃ γ₃ ys₃)) ∷ []))
   asks-write-align-table κ₁ q₁ b₁ o₁ n₁ γ₁ ys₁ a₂ κ₃ q₃ b₃ o₃ n₃ γ₃ ys₃ a₂-ok asked =
       qed W (‵ (Shr u8 κ₁ b₁ o₁ n₁ γ₁ ys₁) ∷ ‵ (flft κ₁ q₁) ∷ ‵ (Mut u8 κ₃ b₃ o₃ n₃ γ₃ ys₃) ∷ ‵ (flft κ₃ q₃) ∷ []) ∵ says ! asked $ nothing ! $ move ! (4 ∷ 0 ∷ []) $ join ! $ move ! (2 ∷ 0 ∷ []) $ join ! $ frame ! $ nothing ! $ move ! (2 ∷ 0 ∷ []) $ fjoin ! $ owned ! Tb (Is Tb) (tb .makes M 𝓤 H A W) a₂ _ a₂-ok $ fjoin ! $ move ! (1 ∷ 0 ∷ []) $ fjoin ! $ done !
 
@@ -177,18 +177,18 @@ module _ {M : Type 1} (𝓤 : URA M) (H : Heap 𝓤) (A : Atoms 𝓤) (W : Given
           -- _15 := write::align_table(_1, _6, _17)
           move ! (3 ∷ []) $ copies ! u8 st b o _ $ move ! (7 ∷ 8 ∷ []) $ lends ! tt u8 (t .ns) b‴ o‴ (length ks) (t .alen) room‴ (λ ν4c δ4c. move ! (3 ∷ 7 ∷ 0 ∷ 1 ∷ []) $
           cut (‵ (Shr u8 κ b o (length st) γ st) ∷ ‵ (flft κ q) ∷ ‵ (Mut u8 (ν4c ∷ []) b‴ o‴ (length ks) δ4c (t .ns)) ∷ ‵ (flft (ν4c ∷ []) fullShare) ∷ []) (raw (WriteAlignTable′ 𝓤 H A mem run′ .pre (to-write-align-table κ q b o (length st) γ st (t .s) (ν4c ∷ []) fullShare b‴ o‴ (length ks) δ4c (t .ns))) ∷ []) _ (asks-write-align-table κ q b o (length st) γ st (t .s) (ν4c ∷ []) fullShare b‴ o‴ (length ks) δ4c (t .ns) (t .fits .0) (short st on (t .s) (t .left) (t .fits .1) (due less), delimiter-within st on (t .s) (t .left) (t .fits .1) (due less), cells-are st on (t .s) (t .left) (t .fits .1) (due less), aligned-few st on (t .s) (t .left) (t .fits .1) (due less))) $
-          calls-unit ! (fmOf 𝓤 H (W .laws) 𝓣) write-align-table.ended (write-align-table.clauses 𝓤 H A mem run′) known-write-align-table (to-write-align-table κ q b o (length st) γ st (t .s) (ν4c ∷ []) fullShare b‴ o‴ (length ks) δ4c (t .ns)) at-unit (λ ws. ws .1 .1 .0 ≡ filledIf (t .s .counts .aligned) (alignmentsAt st (t .s .next .delimiter)) (t .ns)) (λ r ws. id⊢ 𝓤 _) (and-then ! (load ! (from ! (stop !)) (look ! 39 refl)) (and-then ! (load ! (from ! (stop !)) (look ! 29 refl)) (and-then ! (load ! (from ! (stop !)) (look ! 7 refl)) (no-more !)))) (λ ws4 e4.
-          fsplit ! $ drop ! $ fsplit ! $ drop ! $ fsplit ! $ fsplit ! $ move ! (1 ∷ []) $ feqL ! (λ len4c. move ! (1 ∷ []) $ drop ! $ move ! (1 ∷ []) $ use1 W (‵ (flft κ q) ⊛ (‵ (flft (ν4c ∷ []) fullShare) ⊛ ‵ ftrue)) (id⊢ 𝓤 _) $ split ! $ move ! (1 ∷ []) $ split ! $ move ! (1 ∷ []) $ drop ! $ move ! (0 ∷ 3 ∷ 2 ∷ []) $ home ! tt u8 (t .ns) (ws4 .1 .1 .0) (filledIf (t .s .counts .aligned) (alignmentsAt st (t .s .next .delimiter)) (t .ns)) b‴ o‴ (length ks) (t .alen) room‴ len4c e4 (λ ks4-len.
+          calls-unit ! (fmOf 𝓤 H (W .laws) 𝓣) write-align-table.ended (write-align-table.clauses 𝓤 H A mem run′) known-write-align-table (to-write-align-table κ q b o (length st) γ st (t .s) (ν4c ∷ []) fullShare b‴ o‴ (length ks) δ4c (t .ns)) at-unit (λ ws. ws .1 .1 .0 ≡ filledIf (t .s .counts .aligned) (lineAlignments st (t .s .next .delimiter)) (t .ns)) (λ r ws. id⊢ 𝓤 _) (and-then ! (load ! (from ! (stop !)) (look ! 39 refl)) (and-then ! (load ! (from ! (stop !)) (look ! 29 refl)) (and-then ! (load ! (from ! (stop !)) (look ! 7 refl)) (no-more !)))) (λ ws4 e4.
+          fsplit ! $ drop ! $ fsplit ! $ drop ! $ fsplit ! $ fsplit ! $ move ! (1 ∷ []) $ feqL ! (λ len4c. move ! (1 ∷ []) $ drop ! $ move ! (1 ∷ []) $ use1 W (‵ (flft κ q) ⊛ (‵ (flft (ν4c ∷ []) fullShare) ⊛ ‵ ftrue)) (id⊢ 𝓤 _) $ split ! $ move ! (1 ∷ []) $ split ! $ move ! (1 ∷ []) $ drop ! $ move ! (0 ∷ 3 ∷ 2 ∷ []) $ home ! tt u8 (t .ns) (ws4 .1 .1 .0) (filledIf (t .s .counts .aligned) (lineAlignments st (t .s .next .delimiter)) (t .ns)) b‴ o‴ (length ks) (t .alen) room‴ len4c e4 (λ ks4-len.
           land ! (from ! (stop !)) (init ! 12 refl (tt, tt)) $
           -- _9 := write::next_table(_1, _2, _6, _7.3, _8.3)
           move ! (3 ∷ []) $ copies ! u8 st b o _ $ move ! (0 ∷ 4 ∷ []) $
           cut (‵ (Shr u8 κ b o (length st) γ st) ∷ ‵ (flft κ q) ∷ []) (raw (WriteNextTable′ 𝓤 H A mem run′ .pre (to-write-next-table κ q b o (length st) γ st on (t .s) (writtenAt (lastPoint st (after st (headOf (t .s .next)))) (t .s .counts .raw + length (rawTable (tableAt st (headOf (t .s .next))))) .slot) (writtenAt (lastPoint st (after st (headOf (t .s .next)))) (t .s .counts .results + length (resolvedTable (tableAt st (headOf (t .s .next))))) .slot))) ∷ []) _ (asks-write-next-table κ q b o (length st) γ st on (t .s) (writtenAt (lastPoint st (after st (headOf (t .s .next)))) (t .s .counts .raw + length (rawTable (tableAt st (headOf (t .s .next))))) .slot) (writtenAt (lastPoint st (after st (headOf (t .s .next)))) (t .s .counts .results + length (resolvedTable (tableAt st (headOf (t .s .next))))) .slot) on-ok (t .fits .0) (wn-slot (writtenAt (lastPoint st (after st (headOf (t .s .next)))) (t .s .counts .raw + length (rawTable (tableAt st (headOf (t .s .next)))))) ok2) (wn-slot (writtenAt (lastPoint st (after st (headOf (t .s .next)))) (t .s .counts .results + length (resolvedTable (tableAt st (headOf (t .s .next)))))) ok3) (due less .span .next, tables-few st on (t .s) (t .left) (t .fits .1) (due less), aligned-few st on (t .s) (t .left) (t .fits .1) (due less))) $
-          calls-told ! (fmOf 𝓤 H (W .laws) 𝓣) write-next-table.ended (write-next-table.clauses 𝓤 H A mem run′) known-write-next-table (to-write-next-table κ q b o (length st) γ st on (t .s) (writtenAt (lastPoint st (after st (headOf (t .s .next)))) (t .s .counts .raw + length (rawTable (tableAt st (headOf (t .s .next))))) .slot) (writtenAt (lastPoint st (after st (headOf (t .s .next)))) (t .s .counts .results + length (resolvedTable (tableAt st (headOf (t .s .next))))) .slot)) tb (λ r. Comes st on (r .next) (heads kindOf on (linesFrom st (startOf (t .s .next .next)))) × (r .counts ≡ oneMore (t .s .counts) (t .s .counts .raw + length (rawTable (tableAt st (headOf (t .s .next))))) (t .s .counts .results + length (resolvedTable (tableAt st (headOf (t .s .next))))) (t .s .next .cells))) (λ r ws. id⊢ 𝓤 _) (and-then ! (load ! (from ! (stop !)) (look ! 40 refl)) (and-then ! (load ! (from ! (stop !)) (look ! 38 refl)) (and-then ! (load ! (from ! (stop !)) (look ! 30 refl)) (and-then ! (load ! (from ! (fld ! refl (stop !))) (look-in ! 28 (sub ! 3 refl (whole !)))) (and-then ! (load ! (from ! (fld ! refl (stop !))) (look-in ! 26 (sub ! 3 refl (whole !)))) (no-more !)))))) (λ t5 said5 ok5.
+          calls-told ! (fmOf 𝓤 H (W .laws) 𝓣) write-next-table.ended (write-next-table.clauses 𝓤 H A mem run′) known-write-next-table (to-write-next-table κ q b o (length st) γ st on (t .s) (writtenAt (lastPoint st (after st (headOf (t .s .next)))) (t .s .counts .raw + length (rawTable (tableAt st (headOf (t .s .next))))) .slot) (writtenAt (lastPoint st (after st (headOf (t .s .next)))) (t .s .counts .results + length (resolvedTable (tableAt st (headOf (t .s .next))))) .slot)) tb (λ r. FirstTable st on (r .next) (heads kindOf on (linesFrom st (startOf (t .s .next .next)))) × (r .counts ≡ oneMore (t .s .counts) (t .s .counts .raw + length (rawTable (tableAt st (headOf (t .s .next))))) (t .s .counts .results + length (resolvedTable (tableAt st (headOf (t .s .next))))) (t .s .next .cells))) (λ r ws. id⊢ 𝓤 _) (and-then ! (load ! (from ! (stop !)) (look ! 40 refl)) (and-then ! (load ! (from ! (stop !)) (look ! 38 refl)) (and-then ! (load ! (from ! (stop !)) (look ! 30 refl)) (and-then ! (load ! (from ! (fld ! refl (stop !))) (look-in ! 28 (sub ! 3 refl (whole !)))) (and-then ! (load ! (from ! (fld ! refl (stop !))) (look-in ! 26 (sub ! 3 refl (whole !)))) (no-more !)))))) (λ t5 said5 ok5.
           use1 W (‵ (flft κ q) ⊛ ‵ ftrue) (id⊢ 𝓤 _) $ split ! $ move ! (1 ∷ []) $ drop ! $
           land ! (from ! (stop !)) (init ! 24 refl (typed tb W t5 ok5 .0)) $
           assigns-last ! (of-opd ! (load ! (from ! (stop !)) (look ! 24 refl))) (from ! (stop !)) (store ! 30 refl (typed tb W t5 ok5 .0)) $  -- _6 := _9
           move ! (1 ∷ 0 ∷ 6 ∷ 7 ∷ 4 ∷ 5 ∷ 2 ∷ 3 ∷ []) $ forget ! 8 refl $ forget ! 10 refl $ forget ! 12 refl $ forget ! 14 refl $ forget ! 16 refl $ forget ! 18 refl $ forget ! 20 refl $ forget ! 22 refl $ forget ! 24 refl $ forget ! 26 refl $ forget ! 28 refl $
-          again ! Fewer At t (record { s = t5; left = due less .others; zs = wrote (t .s .counts .raw) (rawTable (tableAt st (headOf (t .s .next)))) (t .zs); ws = wrote (t .s .counts .results) (resolvedTable (tableAt st (headOf (t .s .next)))) (t .ws); ns = filledIf (t .s .counts .aligned) (alignmentsAt st (t .s .next .delimiter)) (t .ns); fits = (ok5, goes-good st on (t .s) (t .left) (t .fits .1) (due less) t5 (said5 .0) (said5 .1)); len = ys2-len; wlen = ms3-len; alen = ks4-len; inv = goes-told st on (t .s) (t .left) (t .fits .1) (due less) t5 (said5 .0) (said5 .1) ys ms (t .zs) (t .ws) ks (t .ns) (t .inv) }) (fewer st on (t .s) (t .left) (t .fits .1) (due less))))))))))))))))
+          again ! Fewer At t (record { s = t5; left = due less .others; zs = wrote (t .s .counts .raw) (rawTable (tableAt st (headOf (t .s .next)))) (t .zs); ws = wrote (t .s .counts .results) (resolvedTable (tableAt st (headOf (t .s .next)))) (t .ws); ns = filledIf (t .s .counts .aligned) (lineAlignments st (t .s .next .delimiter)) (t .ns); fits = (ok5, goes-good st on (t .s) (t .left) (t .fits .1) (due less) t5 (said5 .0) (said5 .1)); len = ys2-len; wlen = ms3-len; alen = ks4-len; inv = goes-told st on (t .s) (t .left) (t .fits .1) (due less) t5 (said5 .0) (said5 .1) ys ms (t .zs) (t .ws) ks (t .ns) (t .inv) }) (fewer st on (t .s) (t .left) (t .fits .1) (due less))))))))))))))))
           (λ over. jumps ! $ exec ! C Λ En code-mir.t-3 (atRet En Post) $
           assigns ! (of-opd ! (load ! (from ! (fld ! refl (stop !))) (look-in ! 30 (sub ! 1 refl (whole !))))) (from ! (stop !)) (init ! 42 refl (typed ct W ((t .s) .counts) (tb-counts (t .s) (t .fits .0)) .0)) $  -- _0 := _6.1
           forget ! 22 refl $ forget ! 30 refl $ forget ! 32 refl $ forget ! 34 refl $ forget ! 36 refl $ forget ! 38 refl $ forget ! 40 refl $ leaves (t .zs) (t .ws) (t .ns) (t .len) (t .wlen) (t .alen) ((t .s) .counts) (tb-counts (t .s) (t .fits .0)) (stops st on ys ms (t .zs) (t .ws) ks (t .ns) (t .s) (t .left) (t .fits .1) (t .inv) (fails (t .s .next .found) over)))
@@ -203,7 +203,7 @@ module _ {M : Type 1} (𝓤 : URA M) (H : Heap 𝓤) (A : Atoms 𝓤) (W : Given
           -- _6 := write::first_table(_1, _2)
           copies ! u8 st b o _ $ move ! (0 ∷ 2 ∷ []) $
           cut (‵ (Shr u8 κ b o (length st) γ st) ∷ ‵ (flft κ q) ∷ []) (raw (WriteFirstTable′ 𝓤 H A mem run′ .pre (to-write-first-table κ q b o (length st) γ st on)) ∷ []) _ (asks-write-first-table κ q b o (length st) γ st on on-ok) $
-          calls-told ! (fmOf 𝓤 H (W .laws) 𝓣) write-first-table.ended (write-first-table.clauses 𝓤 H A mem run′) known-write-first-table (to-write-first-table κ q b o (length st) γ st on) tb (λ r. Comes st on (r .next) (tablesRead st on) × (r .counts ≡ record { tables = 0; raw = 0; results = 0; aligned = 0 })) (λ r ws. id⊢ 𝓤 _) (and-then ! (load ! (from ! (stop !)) (look ! 40 refl)) (and-then ! (load ! (from ! (stop !)) (look ! 38 refl)) (no-more !))) (λ t1 said1 ok1.
+          calls-told ! (fmOf 𝓤 H (W .laws) 𝓣) write-first-table.ended (write-first-table.clauses 𝓤 H A mem run′) known-write-first-table (to-write-first-table κ q b o (length st) γ st on) tb (λ r. FirstTable st on (r .next) (tablesRead st on) × (r .counts ≡ record { tables = 0; raw = 0; results = 0; aligned = 0 })) (λ r ws. id⊢ 𝓤 _) (and-then ! (load ! (from ! (stop !)) (look ! 40 refl)) (and-then ! (load ! (from ! (stop !)) (look ! 38 refl)) (no-more !))) (λ t1 said1 ok1.
           use1 W (‵ (flft κ q) ⊛ ‵ ftrue) (id⊢ 𝓤 _) $ split ! $ move ! (1 ∷ []) $ drop ! $
           land ! (from ! (stop !)) (init ! 30 refl (typed tb W t1 ok1 .0)) $
           move ! (1 ∷ 0 ∷ []) $ first ! $ blocks ! $ loops ! 𝓣 Fewer (TB.Fewer-wf (λ (c : Tb .Denot) (fs : List Found). Is Tb c (vals tb c) × Facts st on c fs) (Told st on ys ms ks) ys ms ks) At turns (record { s = t1; left = tablesRead st on; zs = ys; ws = ms; ns = ks; fits = (ok1, begins-good st on t1 (said1 .0) (said1 .1)); len = refl; wlen = refl; alen = refl; inv = begins-told st on ys ms ks t1 (said1 .1) }))
