@@ -69,7 +69,7 @@ module _ (R : Point → Point → Type 0) where
   named-alike : (n : ℕ) {x y : Passed} → AlikePassed x y → named n x ≡ named n y
   named-alike n h = ap (λ k. eqb k n) (h .entry .name)
 
-  isText-alike : {x y : Passed} → AlikePassed x y → isText x ≡ isText y
+  pub isText-alike : {x y : Passed} → AlikePassed x y → isText x ≡ isText y
   isText-alike {x} {y} h = ap (λ k. eqb k Data || eqb k GfmTableDelimiterMarker || eqb k GfmTableDelimiterFiller) (h .entry .name)
 
   isSolid-alike : {x y : Passed} → AlikePassed x y → isSolid x ≡ isSolid y
@@ -89,7 +89,7 @@ module _ (R : Point → Point → Type 0) where
   before-alike h none = more (more h none) none
   before-alike h (more k ks) = more (more h k) ks
 
-  cells-alike : {a b : Bool} {xs ys : List Passed} → a ≡ b → Each AlikePassed xs ys → Each (Each AlikePassed) (cells a xs) (cells b ys)
+  pub cells-alike : {a b : Bool} {xs ys : List Passed} → a ≡ b → Each AlikePassed xs ys → Each (Each AlikePassed) (cells a xs) (cells b ys)
   unfolding cells
   cells-alike e none = more none none
   cells-alike e (more h hs) =
@@ -108,7 +108,7 @@ module _ (R : Point → Point → Type 0) where
   pick-alike {b = false} {c = true} e p q = absurd (false≢true e)
   pick-alike {b = false} {c = false} e p q = q
 
-  lastText-alike : {x y : Passed} {xs ys : List Passed} → AlikePassed x y → Each AlikePassed xs ys → AlikePassed (lastText x xs) (lastText y ys)
+  pub lastText-alike : {x y : Passed} {xs ys : List Passed} → AlikePassed x y → Each AlikePassed xs ys → AlikePassed (lastText x xs) (lastText y ys)
   unfolding lastText
   lastText-alike h none = h
   lastText-alike h (more k ks) = pick-alike (anyText-alike (more k ks)) (lastText-alike k ks) h

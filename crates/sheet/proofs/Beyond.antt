@@ -44,7 +44,7 @@ placedAt p (m ∷ all) (k ∷ up) l below e =
 -- ## The walk beyond a blank line
 
 -- a delimiter row is no blank line
-marked-blank : (kind : ℕ → ℕ) (s : List ℕ) → marked kind s ≡ true → blank kind s ≡ false
+pub marked-blank : (kind : ℕ → ℕ) (s : List ℕ) → marked kind s ≡ true → blank kind s ≡ false
 unfolding marked unindented
 marked-blank kind [] h = absurd (false≢true h)
 marked-blank kind (b ∷ s) h =
@@ -61,12 +61,12 @@ after-le [] p = omega arith
 after-le (l ∷ ls) p = omega (arith, after-le ls (onward p l))
 
 module _ (kind : ℕ → ℕ) where
-  blankLast-tail : (l : Placed) (ls : List Placed) → blankLast kind (l ∷ ls) ≡ true → blankLast kind ls ≡ true
+  pub blankLast-tail : (l : Placed) (ls : List Placed) → blankLast kind (l ∷ ls) ≡ true → blankLast kind ls ≡ true
   unfolding blankLast
   blankLast-tail l [] h = refl
   blankLast-tail l (m ∷ ls) h = h
 
-  goes-on : (p : Point) (l : Line) (ls : List Line) → blankLast kind (placed p (l ∷ ls)) ≡ true → blank kind (l .body) ≡ false → 0 < length ls
+  pub goes-on : (p : Point) (l : Line) (ls : List Line) → blankLast kind (placed p (l ∷ ls)) ≡ true → blank kind (l .body) ≡ false → 0 < length ls
   unfolding blankLast placed
   goes-on p l [] h e = absurd (false≢true (sym e ∙ h))
   goes-on p l (m ∷ ls) h e = omega arith
@@ -136,7 +136,7 @@ module _ (kind : ℕ → ℕ) (on : Bool) where
   reading-from : (s : List ℕ) (a : ℕ) (u : Fresh kind s a) → tablesFrom a (tables kind on s) ≡ heads kind on (placed (u .from .line .at) (lines (drop a s)))
   reading-from s a u = let f = u .from in rw (sym (f .from)) (reading s (f .above) (f .line) (f .below) (f .split) (u .gap))
 
-shifted-kept : (m n a b : ℕ) → Kept (Shifted m n a b)
+pub shifted-kept : (m n a b : ℕ) → Kept (Shifted m n a b)
 shifted-kept m n a b =
     record {
       along = λ u v s h. record { line = h .line; column = ap (λ c. columnPast c s) (h .column); index = omega arith; vs = refl };
@@ -144,7 +144,7 @@ shifted-kept m n a b =
     }
 
 -- a line starts in column 1
-after-column : (p : Point) (ls : List Line) → p .column ≡ 1 → p .vs ≡ 0 → (after p ls .column ≡ 1) × (after p ls .vs ≡ 0)
+pub after-column : (p : Point) (ls : List Line) → p .column ≡ 1 → p .vs ≡ 0 → (after p ls .column ≡ 1) × (after p ls .vs ≡ 0)
 unfolding after
 after-column p [] h k = (h, k)
 after-column p (l ∷ ls) h k = after-column (onward p l) ls refl refl

@@ -11,12 +11,12 @@ use lib.Seq.{take-at, drop-at}
 use Rattle.tokenizer.specs.declared.event.Point.{Point}
 use Rattle.tokenizer.specs.declared.event.Event.{Event}
 use Rattle.tokenizer.specs.Points.{start, columnPast}
-use Rattle.tokenizer.specs.Events.{GfmTableCell, GfmTableDelimiterCell}
+use Rattle.tokenizer.specs.Events.{GfmTableRow, GfmTableDelimiterRow}
 use Rattle.tokenizer.specs.Lines.{Line, lines, blank}
 use Rattle.tokenizer.specs.Places.{Placed, placed}
-use Rattle.gfm_table.specs.Rows.{Passed, Row, rawRow}
-use Rattle.gfm_table.specs.Raw.{textRow}
-use Rattle.edit_map.specs.Tables.{BodyRow, rawTable, rowInner, delimiterInner, resolvedRow, resolvedText, resolvedTable}
+use Rattle.gfm_table.specs.Rows.{Piece, Row, rowPieces, delimiterPieces, rawRow}
+use Rattle.gfm_table.specs.Raw.{rowAt, textRow}
+use Rattle.edit_map.specs.Tables.{BodyRow, rawTable, resolvedText, resolvedTable}
 use Rattle.sheet.specs.Walk.{Found, opens, lineEnd, bodyRows, heads, rows, tables}
 use Rattle.sheet.specs.Demands.{Each, none, more, Alike, rowsIn, begins, plain, Moved, OtherRow, OtherRows, Exchange}
 use Rattle.sheet.proofs.Lists.{All, all-members, each-weaken, each-with, each-cond}
@@ -30,11 +30,11 @@ use Rattle.sheet.proofs.RowsIn.{bodyEvents, resolvedDelimiter, raw-rows
 
 module _ (kind : ℕ → ℕ) (on : Bool) where
   -- whether a line and the next open a table, wherever they stand
-  abbrev opened : Line → Line → Bool
+  abbrev pub opened : Line → Line → Bool
   opened l d = opens kind on (starting start l) (starting start d)
 
   -- the walk stands in a body after these lines, if before them it looks for a head (true) or stands in a body (false)
-  data Way : Bool → List Line → Type 0 where
+  pub data Way : Bool → List Line → Type 0 where
     here : Way false []
     closed : {l : Line} {ls : List Line} → blank kind (l .body) ≡ true → Way true ls → Way false (l ∷ ls)
     row : {l : Line} {ls : List Line} → blank kind (l .body) ≡ false → Way false ls → Way false (l ∷ ls)
@@ -42,14 +42,14 @@ module _ (kind : ℕ → ℕ) (on : Bool) where
     head : {l d : Line} {ls : List Line} → opened l d ≡ true → Way false ls → Way true (l ∷ d ∷ ls)
 
   -- a body row's line among the lines from a point on
-  record Located (b : Bool) (p : Point) (all : List Line) (r : BodyRow) : Type 0 where
-    ls : List Line
-    l : Line
-    ms : List Line
-    split : all ≡ ls ++ l ∷ ms
-    way : Way b ls
-    solid : blank kind (l .body) ≡ false
-    row : r .row ≡ textRow kind (after p ls) (l .body)
+  pub record Located (b : Bool) (p : Point) (all : List Line) (r : BodyRow) : Type 0 where
+    pub ls : List Line
+    pub l : Line
+    pub ms : List Line
+    pub split : all ≡ ls ++ l ∷ ms
+    pub way : Way b ls
+    pub solid : blank kind (l .body) ≡ false
+    pub row : r .row ≡ textRow kind (after p ls) (l .body)
 
   -- one more line before a located one
   further : {b c : Bool} {p : Point} {all : List Line} {r : BodyRow} (l : Line) (w : Located c (onward p l) all r) → Way b (l ∷ w .ls) → Located b p (l ∷ all) r
@@ -77,7 +77,7 @@ module _ (kind : ℕ → ℕ) (on : Bool) where
   mutual
     unfolding heads placed after
 
-    heads-located : (p : Point) (all : List Line) (f : Found) (r : BodyRow) → List·Memᴰ f (heads kind on (placed p all)) → List·Memᴰ r (f .table .body) → Located true p all r
+    pub heads-located : (p : Point) (all : List Line) (f : Found) (r : BodyRow) → List·Memᴰ f (heads kind on (placed p all)) → List·Memᴰ r (f .table .body) → Located true p all r
     heads-located p [] f r i j = absurd (List·Memᴰ·not-nil i)
     heads-located p (l ∷ []) f r i j = absurd (List·Memᴰ·not-nil i)
     heads-located p (l ∷ d ∷ all) f r i j =
@@ -99,116 +99,102 @@ module _ (kind : ℕ → ℕ) (on : Bool) where
 
 -- ## The rows before the exchanged line, and behind it
 
--- a row and its counterpart
-record Pair (a old new n : ℕ) (inner : List Passed → List Event) (r s : Row) : Type 0 where
-  raw : OtherRow a old new (rawRow r) (rawRow s)
-  text : OtherRow a old new (resolvedRow n inner r) (resolvedRow n inner s)
-
-abbrev TextPair : ℕ → ℕ → ℕ → Row → Row → Type 0
-TextPair a old new = Pair a old new GfmTableCell rowInner
-
-record Pairs (a old new : ℕ) (f g : Found) : Type 0 where
-  head : TextPair a old new (f .table .head) (g .table .head)
-  delimiter : Pair a old new GfmTableDelimiterCell delimiterInner (f .table .delimiter) (g .table .delimiter)
-  body : Each (λ b c. TextPair a old new (b .row) (c .row)) (f .table .body) (g .table .body)
-  aligned : f .aligned ≡ g .aligned
-
--- moved, and behind offset a
-record Behind (a old new : ℕ) (u v : Point) : Type 0 where
-  moved : Moved old new u v
-  far : a < u .index
+-- moved, and behind a line of `old` bytes at offset a
+pub record Behind (a old new : ℕ) (u v : Point) : Type 0 where
+  pub moved : Moved old new u v
+  pub far : a < u .index
+  pub clear : a + old ≤ u .index
 
 behind-kept : (a old new : ℕ) → Kept (Behind a old new)
 behind-kept a old new =
     record {
       along = λ u v s h.
-          record { moved = record { line = h .moved .line; column = ap (λ c. columnPast c s) (h .moved .column); index = omega arith; vs = refl }; far = omega arith };
-      next = λ u v n h. record { moved = record { line = ap (λ k. k + 1) (h .moved .line); column = refl; index = omega arith; vs = refl }; far = omega arith };
+          record {
+            moved = record { line = h .moved .line; column = ap (λ c. columnPast c s) (h .moved .column); index = omega arith; vs = refl };
+            far = omega arith;
+            clear = omega arith;
+          };
+      next = λ u v n h.
+          record {
+            moved = record { line = ap (λ k. k + 1) (h .moved .line); column = refl; index = omega arith; vs = refl };
+            far = omega arith;
+            clear = omega arith;
+          };
     }
 
-moved-events : {a old new : ℕ} {es fs : List Event} → Each (Alike (Behind a old new)) es fs → Each (Alike (Moved old new)) es fs
-moved-events = each-weaken (λ e f h. record { kind = h .kind; name = h .name; link = h .link; point = h .point .moved })
+-- a row and its counterpart, where at the point p the line `old` becomes `new`: a line before it, that line, or one behind it
+pub data Pair (n : ℕ) (pieces : List ℕ → List Piece) (p : Point) (old new : List ℕ) : Row → Row → Type 0 where
+  before : (q : Point) (u : List ℕ) → q .index + length u ≤ p .index → Pair n pieces p old new (rowAt n pieces q u) (rowAt n pieces q u)
+  here : Pair n pieces p old new (rowAt n pieces p old) (rowAt n pieces p new)
+  behind : {r s : Row} → AlikeRow (Behind (p .index) (length old) (length new)) r s → Pair n pieces p old new r s
 
-other-behind : {a old new : ℕ} {es fs : List Event} → a < begins es → Each (Alike (Behind a old new)) es fs → OtherRow a old new es fs
-other-behind l h = record { before = λ b. absurd (omega arith); behind = λ b. moved-events h }
+module _ (kind : ℕ → ℕ) (p : Point) (old new : List ℕ) where
+  abbrev pub TextPair : Row → Row → Type 0
+  TextPair = Pair GfmTableRow (rowPieces kind false) p old new
 
-other-here : {a old new : ℕ} (es fs : List Event) → begins es ≡ a → OtherRow a old new es fs
-other-here es fs e = record { before = λ b. absurd (omega arith); behind = λ b. absurd (omega arith) }
+  pub record Pairs (f g : Found) : Type 0 where
+    pub head : TextPair (f .table .head) (g .table .head)
+    pub delimiter : Pair GfmTableDelimiterRow (delimiterPieces kind) p old new (f .table .delimiter) (g .table .delimiter)
+    pub body : Each (λ b c. TextPair (b .row) (c .row)) (f .table .body) (g .table .body)
+    pub aligned : f .aligned ≡ g .aligned
 
-other-before : {a old new : ℕ} (es : List Event) → begins es ≤ a → OtherRow a old new es es
-other-before es h = record { before = λ b. refl; behind = λ b. absurd (omega arith) }
-
-text-behind : {a old new : ℕ} {r s : Row} → AlikeRow (Behind a old new) r s → TextPair a old new r s
-text-behind h =
-    let l = h .entry .point .far in
-    record { raw = other-behind l (rawRow-alike _ h); text = other-behind l (resolvedText-alike _ h) }
-
-delimiter-behind : {a old new : ℕ} {r s : Row} → AlikeRow (Behind a old new) r s → Pair a old new GfmTableDelimiterCell delimiterInner r s
-delimiter-behind h =
-    let l = h .entry .point .far in
-    record { raw = other-behind l (rawRow-alike _ h); text = other-behind l (resolvedDelimiter-alike _ h) }
-
-row-here : {a old new n : ℕ} {inner : List Passed → List Event} (r s : Row) → r .entry .index ≡ a → Pair a old new n inner r s
-row-here r s e = record { raw = other-here _ _ e; text = other-here _ _ e }
-
-row-before : {a old new n : ℕ} {inner : List Passed → List Event} (r : Row) → r .entry .index ≤ a → Pair a old new n inner r r
-row-before r h = record { raw = other-before _ h; text = other-before _ h }
-
-found-behind : {a old new : ℕ} {f g : Found} → AlikeFound (Behind a old new) f g → Pairs a old new f g
-found-behind h =
-    record {
-      head = text-behind (h .table .head);
-      delimiter = delimiter-behind (h .table .delimiter);
-      body = each-weaken (λ b c k. text-behind (k .row)) (h .table .body);
-      aligned = h .aligned;
-    }
+  found-behind : {f g : Found} → AlikeFound (Behind (p .index) (length old) (length new)) f g → Pairs f g
+  found-behind h =
+      record {
+        head = behind (h .table .head);
+        delimiter = behind (h .table .delimiter);
+        body = each-weaken (λ b c k. behind (k .row)) (h .table .body);
+        aligned = h .aligned;
+      }
 
 -- ## The walk over the exchanged line
 
 module _ (kind : ℕ → ℕ) (on : Bool) (l m : Line) (ms : List Line) (end : l .end ≡ m .end) (solidL : blank kind (l .body) ≡ false) (solidM : blank kind (m .body) ≡ false) where
-  abbrev old : ℕ
-  old = length (l .body)
+  -- the points behind the two lines
+  abbrev Next : Point → Point → Point → Type 0
+  Next p = Behind (p .index) (length (l .body)) (length (m .body))
 
-  abbrev new : ℕ
-  new = length (m .body)
+  next-kept : (p : Point) → Kept (Next p)
+  next-kept p = behind-kept (p .index) (length (l .body)) (length (m .body))
 
-  next-behind : (p : Point) → Behind (p .index) old new (onward p l) (onward p m)
+  next-behind : (p : Point) → Next p (onward p l) (onward p m)
   next-behind p =
       record {
         moved = record { line = refl; column = refl; index = omega arith; vs = refl };
         far = omega (arith, nonblank-length kind (l .body) solidL);
+        clear = omega arith;
       }
 
   rows-other : (k : Placed) (p : Point) (ls : List Line)
-      → Each (λ b c. TextPair (after p ls .index) old new (b .row) (c .row)) (bodyRows kind k (placed p (ls ++ l ∷ ms))) (bodyRows kind k (placed p (ls ++ m ∷ ms)))
+      → Each (λ b c. TextPair kind (after p ls) (l .body) (m .body) (b .row) (c .row)) (bodyRows kind k (placed p (ls ++ l ∷ ms))) (bodyRows kind k (placed p (ls ++ m ∷ ms)))
   unfolding bodyRows placed after
   rows-other k p [] =
       rw (solidL, solidM)
-      (more (row-here _ _ refl) (each-weaken (λ b c h. text-behind h) (rows-alike kind _ (behind-kept (p .index) old new) _ _ (next-behind p) ms)))
+      (more here (each-weaken (λ b c h. behind h) (rows-alike kind _ (next-kept p) _ _ (next-behind p) ms)))
   rows-other k p (j ∷ ls) =
       each-cond {b = blank kind (j .body)} refl none
-      (more (row-before _ (omega (arith, after-le ls (onward p j)))) (rows-other _ (onward p j) ls))
+      (more (before p (j .body) (omega (arith, after-le ls (onward p j)))) (rows-other _ (onward p j) ls))
 
   found-other : (p : Point) (j d : Line) (ls : List Line)
-      → Pairs (after (onward (onward p j) d) ls .index) old new (foundAt kind on p j d (ls ++ l ∷ ms)) (foundAt kind on p j d (ls ++ m ∷ ms))
+      → Pairs kind (after (onward (onward p j) d) ls) (l .body) (m .body) (foundAt kind on p j d (ls ++ l ∷ ms)) (foundAt kind on p j d (ls ++ m ∷ ms))
   found-other p j d ls =
       let far = after-le ls (onward (onward p j) d) in
       record {
-        head = row-before _ (omega arith);
-        delimiter = row-before _ (omega arith);
+        head = before p (j .body) (omega arith);
+        delimiter = before (onward p j) (d .body) (omega arith);
         body = rows-other _ (onward (onward p j) d) ls;
         aligned = refl;
       }
 
   -- the tables of some lines, if a head is looked for or a body goes on
-  abbrev walked : Bool → List Placed → List Found
+  abbrev pub walked : Bool → List Placed → List Found
   walked b ls = cond b (heads kind on ls) (rows kind on ls)
 
-  walk-other : {b : Bool} {ls : List Line} → Way kind on b ls → (p : Point)
-      → Each (Pairs (after p ls .index) old new) (walked b (placed p (ls ++ l ∷ ms))) (walked b (placed p (ls ++ m ∷ ms)))
+  pub walk-other : {b : Bool} {ls : List Line} → Way kind on b ls → (p : Point)
+      → Each (Pairs kind (after p ls) (l .body) (m .body)) (walked b (placed p (ls ++ l ∷ ms))) (walked b (placed p (ls ++ m ∷ ms)))
   unfolding heads placed after
   walk-other here p =
-      rw (solidL, solidM) (each-weaken (λ f g h. found-behind h) (rest-alike kind _ (behind-kept (p .index) old new) on (next-behind p) ms))
+      rw (solidL, solidM) (each-weaken (λ f g h. found-behind kind p (l .body) (m .body) h) (rest-alike kind _ (next-kept p) on (next-behind p) ms))
   walk-other (closed {l = j} e w) p = rw e (walk-other w (onward p j))
   walk-other (row {l = j} e w) p = rw e (walk-other w (onward p j))
   walk-other (prose {l = j} e w) p = rw e (walk-other w (onward p j))
@@ -234,13 +220,13 @@ module _ (kind : ℕ → ℕ) (on : Bool) (x old new y : List ℕ) (r : BodyRow)
       let g = append-inj old y (w .l .body) (c .y) (f .1) (omega arith) in
       (g .0, here, ap₂ (λ (a b : List ℕ). lines (a ++ (new ++ b))) (f .0) (g .1) ∙ c .swap new p (nonblank-length kind new solid))
 
-  sheets-other : Located kind on true start (lines (x ++ (old ++ y))) r
-      → Each (Pairs (length x) (length old) (length new)) (tables kind on (x ++ (old ++ y))) (tables kind on (x ++ (new ++ y)))
+  sheets-other : (w : Located kind on true start (lines (x ++ (old ++ y))) r)
+      → (length x ≡ after start (w .ls) .index) × Each (Pairs kind (after start (w .ls)) old new) (tables kind on (x ++ (old ++ y))) (tables kind on (x ++ (new ++ y)))
   sheets-other w = go (lines-exchanged w (around (w .ls) (x ++ (old ++ y)) (w .l) (w .ms) (w .split)))
     where
       go : (old ≡ w .l .body) × (length x ≡ after start (w .ls) .index) × (lines (x ++ (new ++ y)) ≡ w .ls ++ record { body = new; end = w .l .end } ∷ w .ms)
-          → Each (Pairs (length x) (length old) (length new)) (tables kind on (x ++ (old ++ y))) (tables kind on (x ++ (new ++ y)))
-      go h = rw (h .2, w .split, h .1, h .0) (walk-other kind on (w .l) (record { body = new; end = w .l .end }) (w .ms) refl (w .solid) solid (w .way) start)
+          → (length x ≡ after start (w .ls) .index) × Each (Pairs kind (after start (w .ls)) old new) (tables kind on (x ++ (old ++ y))) (tables kind on (x ++ (new ++ y)))
+      go h = (h .1, rw (h .2, w .split, h .0) (walk-other kind on (w .l) (record { body = new; end = w .l .end }) (w .ms) refl (w .solid) solid (w .way) start))
 
 -- the rows among a table's events
 record Rowed (f : Found) : Type 0 where
@@ -253,23 +239,54 @@ tables-rowed kind on s =
     let h = headed kind on s f m in
     rw (h .same) (record { raw = raw-rows kind _ _ _; resolved = resolved-rows kind _ _ _ }))
 
-body-pairs : (g : Row → List Event) {a old new : ℕ} {bs cs : List BodyRow} → Each (λ b c. OtherRow a old new (g (b .row)) (g (c .row))) bs cs
-    → Each (OtherRow a old new) (bodyEvents g bs) (bodyEvents g cs)
-unfolding bodyEvents
-body-pairs g none = none
-body-pairs g (more h hs) = more h (body-pairs g hs)
+-- what a pair of rows says of their events, raw or resolved
+record Tells (g : Row → List Event) : Type 1 where
+  first : (r : Row) → begins (g r) ≡ r .entry .index
+  alike : (R : Point → Point → Type 0) (r s : Row) → AlikeRow R r s → Each (Alike R) (g r) (g s)
 
-pairs-rows : {a old new : ℕ} {f g : Found} → Pairs a old new f g → Rowed f → Rowed g → OtherRows a old new f g
+pair-rows : {g : Row → List Event} → Tells g → {n : ℕ} {pieces : List ℕ → List Piece} {p : Point} {old new : List ℕ} {r s : Row} → Pair n pieces p old new r s
+    → OtherRow (p .index) (length old) (length new) (g r) (g s)
+pair-rows {g} t {n} {pieces} (before q u h) =
+    let i = t .first (rowAt n pieces q u) in
+    record { before = λ b. refl; behind = λ b. absurd (omega arith) }
+pair-rows {g} t {n} {pieces} {p} {old} here =
+    let i = t .first (rowAt n pieces p old) in
+    record { before = λ b. absurd (omega arith); behind = λ b. absurd (omega arith) }
+pair-rows {g} t (behind {r} {s} h) =
+    let i = t .first r in
+    let far = h .entry .point .far in
+    record {
+      before = λ b. absurd (omega arith);
+      behind = λ b. each-weaken (λ e f k. record { kind = k .kind; name = k .name; link = k .link; point = k .point .moved }) (t .alike _ r s h);
+    }
+
+body-pairs : {g : Row → List Event} → Tells g → {n : ℕ} {pieces : List ℕ → List Piece} {p : Point} {old new : List ℕ} {bs cs : List BodyRow}
+    → Each (λ b c. Pair n pieces p old new (b .row) (c .row)) bs cs → Each (OtherRow (p .index) (length old) (length new)) (bodyEvents g bs) (bodyEvents g cs)
+unfolding bodyEvents
+body-pairs t none = none
+body-pairs t (more h hs) = more (pair-rows t h) (body-pairs t hs)
+
+raw-tells : Tells rawRow
+raw-tells = record { first = λ r. refl; alike = λ R r s. rawRow-alike R }
+
+text-tells : Tells resolvedText
+text-tells = record { first = λ r. refl; alike = λ R r s. resolvedText-alike R }
+
+delimiter-tells : Tells resolvedDelimiter
+delimiter-tells = record { first = λ r. refl; alike = λ R r s. resolvedDelimiter-alike R }
+
+pairs-rows : {kind : ℕ → ℕ} {p : Point} {old new : List ℕ} {f g : Found} → Pairs kind p old new f g → Rowed f → Rowed g → OtherRows (p .index) (length old) (length new) f g
 pairs-rows h r s =
     record {
-      raw = rw (r .raw, s .raw) (more (h .head .raw) (more (h .delimiter .raw) (body-pairs rawRow (each-weaken (λ b c k. k .raw) (h .body)))));
-      resolved = rw (r .resolved, s .resolved) (more (h .head .text) (more (h .delimiter .text) (body-pairs resolvedText (each-weaken (λ b c k. k .text) (h .body)))));
+      raw = rw (r .raw, s .raw) (more (pair-rows raw-tells (h .head)) (more (pair-rows raw-tells (h .delimiter)) (body-pairs raw-tells (h .body))));
+      resolved = rw (r .resolved, s .resolved) (more (pair-rows text-tells (h .head)) (more (pair-rows delimiter-tells (h .delimiter)) (body-pairs text-tells (h .body))));
       aligned = h .aligned;
     }
 
 pub exchange : (kind : ℕ → ℕ) → Exchange kind
 exchange kind on x old new y b p solid =
-    each-weaken (λ f g h. pairs-rows (h .0) (h .1) (h .2))
-    (each-with
-    (sheets-other kind on x old new y (b .row) (b .from) (b .to) p solid (heads-located kind on start (lines (x ++ (old ++ y))) (b .found) (b .row) (b .among) (b .within)))
-    (tables-rowed kind on (x ++ (old ++ y))) (tables-rowed kind on (x ++ (new ++ y))))
+    let w = heads-located kind on start (lines (x ++ (old ++ y))) (b .found) (b .row) (b .among) (b .within) in
+    let k = sheets-other kind on x old new y (b .row) (b .from) (b .to) p solid w in
+    rw (k .0)
+    (each-weaken (λ f g h. pairs-rows (h .0) (h .1) (h .2))
+    (each-with (k .1) (tables-rowed kind on (x ++ (old ++ y))) (tables-rowed kind on (x ++ (new ++ y)))))

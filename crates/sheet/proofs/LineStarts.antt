@@ -17,7 +17,7 @@ use Rattle.sheet.proofs.Walks.{starting, onward}
 use Rattle.sheet.proofs.Split.{Cut, cut, lines-last, lines-next, after}
 
 -- how many bytes lie in some lines, with their line ends
-unfoldable bytes : List Line → ℕ
+unfoldable pub bytes : List Line → ℕ
 bytes [] = 0
 bytes (l ∷ ls) = length (l .body) + l .end + bytes ls
 
@@ -110,7 +110,7 @@ unfolding placed after
 placed-append p [] l ms = refl
 placed-append p (k ∷ ls) l ms = ap (λ (z : List Placed). starting p k ∷ z) (placed-append (onward p k) ls l ms)
 
-after-size : (p : Point) (ls : List Line) → (after p ls .index ≡ p .index + bytes ls) × (after p ls .line ≡ p .line + length ls)
+pub after-size : (p : Point) (ls : List Line) → (after p ls .index ≡ p .index + bytes ls) × (after p ls .line ≡ p .line + length ls)
 unfolding after bytes
 after-size p [] = (omega arith, omega arith)
 after-size p (l ∷ ls) = let h = after-size (onward p l) ls in (omega (arith, h .0), omega (arith, h .1))

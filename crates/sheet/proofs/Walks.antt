@@ -43,7 +43,7 @@ pub record AlikeFound (R : Point → Point → Type 0) (f g : Found) : Type 0 wh
   pub aligned : f .aligned ≡ g .aligned
 
 module _ (kind : ℕ → ℕ) (R : Point → Point → Type 0) (K : Kept R) where
-  passed-alike : {p q : Point} → R p q → (xs : List Piece) → Each (AlikePassed R) (passed p xs) (passed q xs)
+  pub passed-alike : {p q : Point} → R p q → (xs : List Piece) → Each (AlikePassed R) (passed p xs) (passed q xs)
   unfolding passed
   passed-alike h [] = none
   passed-alike h (x ∷ xs) =
