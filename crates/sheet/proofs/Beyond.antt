@@ -3,7 +3,7 @@
 use Prim.Native.Nat.{ℕ, _≤_, _<_}
 use mathlib.Core.Path.{_≡_, refl, ap, ap₂, sym, _∙_}
 use mathlib.Core.List.{List, [], _∷_, _++_, head-eq-of-cons-eq, tail-eq-of-cons-eq}
-use mathlib.Core.Bool.{Bool, true, false, true≢false, false≢true}
+use mathlib.Core.Bool.{Bool, true, false, false≢true}
 use native.Mathlib.Omega.{arith}
 use lib.Dec.{eqb}
 use lib.ListN.{length, drop}
@@ -14,11 +14,12 @@ use Rattle.tokenizer.specs.Points.{start, columnPast}
 use Rattle.tokenizer.specs.Lines.{Line, lines, lineNumber, blank, isEmpty, unindented}
 use Rattle.tokenizer.specs.Places.{Placed, placed, placedLines}
 use Rattle.gfm_table.specs.Heads.{marked}
-use Rattle.sheet.specs.Walk.{opens, heads, rows, tables}
+use Rattle.sheet.specs.Walk.{closes, opens, heads, rows, tables}
 use Rattle.sheet.specs.Demands.{LineFrom, blankLast, Fresh, tablesFrom, Shifted, Beyond}
 use Rattle.sheet.proofs.Lists.{each-weaken}
 use Rattle.sheet.proofs.Alike.{rawTable-alike, resolvedTable-alike}
 use Rattle.sheet.proofs.Tests.{by-cases}
+use Rattle.sheet.proofs.Closing.{blank-closes, closes-not, solid-length}
 use Rattle.sheet.proofs.Walks.{starting, onward, Kept, heads-alike, opens-head}
 use Rattle.sheet.proofs.Split.{after, Around, around, nil-ne-append}
 
@@ -49,11 +50,6 @@ unfolding marked unindented
 marked-blank kind [] h = absurd (false≢true h)
 marked-blank kind (b ∷ s) h =
     by-cases (λ z. isEmpty z ≡ false) (eqb (kind b) 1) (λ e. marked-blank kind s (rw (eqb-true (kind b) 1 e) at h)) (λ e. refl)
-
-pub nonblank-length : (kind : ℕ → ℕ) (s : List ℕ) → blank kind s ≡ false → 0 < length s
-unfolding unindented
-nonblank-length kind [] h = absurd (true≢false h)
-nonblank-length kind (b ∷ s) h = omega arith
 
 pub after-le : (ls : List Line) (p : Point) → p .index ≤ after p ls .index
 unfolding after
@@ -87,7 +83,7 @@ module _ (kind : ℕ → ℕ) (on : Bool) where
     from-rows : (a : ℕ) (p : Point) (ls : List Line) → a ≤ p .index → tablesFrom a (rows kind on (placed p ls)) ≡ rows kind on (placed p ls)
     from-rows a p [] h = refl
     from-rows a p (l ∷ ls) h =
-        by-cases (λ z. tablesFrom a z ≡ z) (blank kind (l .body)) (λ e. from-heads a (onward p l) ls (omega arith)) (λ e. from-rows a (onward p l) ls (omega arith))
+        by-cases (λ z. tablesFrom a z ≡ z) (closes kind (l .body)) (λ e. from-heads a (onward p l) ls (omega arith)) (λ e. from-rows a (onward p l) ls (omega arith))
 
   -- lines that end in a blank one leave the walk looking for a head, and their tables begin before the point after them
   mutual
@@ -97,13 +93,13 @@ module _ (kind : ℕ → ℕ) (on : Bool) where
         → tablesFrom (after p ls .index) (heads kind on (placed p (ls ++ k))) ≡ heads kind on (placed (after p ls) k)
     past-heads p [] k h = from-heads (p .index) p k (omega arith)
     past-heads p (l ∷ []) [] h = refl
-    past-heads p (l ∷ []) (d ∷ k) h = rw h (from-heads _ (onward p l) (d ∷ k) (omega arith))
+    past-heads p (l ∷ []) (d ∷ k) h = rw (blank-closes kind (l .body) h) (from-heads _ (onward p l) (d ∷ k) (omega arith))
     past-heads p (l ∷ d ∷ ls) k h =
         by-cases (λ z. tablesFrom (after p (l ∷ d ∷ ls) .index) z ≡ heads kind on (placed (after p (l ∷ d ∷ ls)) k)) (opens kind on (starting p l) (starting (onward p l) d))
         (λ e.
         let o = opens-head kind on (starting p l) (starting (onward p l) d) e in
         let q = onward (onward p l) d in
-        let early : p .index < after q ls .index = omega (arith, after-le ls q, nonblank-length kind (l .body) (o .filled)) in
+        let early : p .index < after q ls .index = omega (arith, after-le ls q, solid-length kind (l .body) (o .filled)) in
         rw (lt-leb (after q ls .index) (p .index) early)
         (past-rows q ls k (blankLast-tail kind _ (placed q ls) h) (goes-on kind (onward p l) d ls h (marked-blank kind (d .body) (o .marked)))))
         (λ e. past-heads (onward p l) (d ∷ ls) k h)
@@ -113,9 +109,9 @@ module _ (kind : ℕ → ℕ) (on : Bool) where
     past-rows p [] k h n = absurd (omega arith)
     past-rows p (l ∷ ls) k h n =
         let g = blankLast-tail kind _ (placed (onward p l) ls) h in
-        by-cases (λ z. tablesFrom (after p (l ∷ ls) .index) z ≡ heads kind on (placed (after p (l ∷ ls)) k)) (blank kind (l .body))
+        by-cases (λ z. tablesFrom (after p (l ∷ ls) .index) z ≡ heads kind on (placed (after p (l ∷ ls)) k)) (closes kind (l .body))
         (λ e. past-heads (onward p l) ls k g)
-        (λ e. past-rows (onward p l) ls k g (goes-on kind p l ls h e))
+        (λ e. past-rows (onward p l) ls k g (goes-on kind p l ls h (closes-not kind (l .body) e .0)))
 
   -- what is read from a line with a blank line or none before it is read of the bytes from there on
   reading : (s : List ℕ) (up : List Placed) (l : Placed) (below : List Placed) → placedLines s ≡ up ++ l ∷ below → blankLast kind up ≡ true

@@ -12,7 +12,7 @@ use Rattle.tokenizer.specs.declared.event.Event.{Event}
 use Rattle.tokenizer.specs.Bytes.{kindOf}
 use Rattle.tokenizer.specs.Events.{GfmTableRow, GfmTableDelimiterRow}
 use Rattle.tokenizer.specs.Points.{past, nextLine}
-use Rattle.tokenizer.specs.Lines.{Line, startsLF, onFirst, crlf, lines, blank, isEmpty}
+use Rattle.tokenizer.specs.Lines.{Line, startsLF, onFirst, crlf, lines, isEmpty}
 use Rattle.tokenizer.specs.Moves.{lineAt, after}
 use Rattle.tokenizer.specs.Places.{Placed, placed, linesFrom, linesPast}
 use Rattle.gfm_table.specs.Heads.{onStretch, stretches, trimmed, unled, untrailed, values, alignments}
@@ -20,7 +20,7 @@ use Rattle.gfm_table.specs.Rows.{rowPieces, delimiterPieces, both, rawRow}
 use Rattle.gfm_table.specs.Raw.{textRow}
 use Rattle.gfm_table.proofs.Plans.{row-few, delimiter-few, row-length}
 use Rattle.edit_map.specs.Tables.{rawBody, rawTable}
-use Rattle.sheet.specs.Walk.{Found, lineEnd, bodyRows, rawOf, alignedOf, tableOf, opens, heads, rows}
+use Rattle.sheet.specs.Walk.{Found, closes, lineEnd, bodyRows, rawOf, alignedOf, tableOf, opens, heads, rows}
 use Rattle.sheet.specs.From.{here}
 use Rattle.sheet.proofs.Tests.{test}
 
@@ -156,7 +156,7 @@ module _ (on : Bool) where
     pub rows-tally : (l : Placed) (ls : List Placed) → length (rawBody (bodyRows kindOf l ls)) + tally (rows kindOf on ls) ≤ 2 * weight ls
     rows-tally l [] = omega arith
     rows-tally l (m ∷ ls) =
-        test (blank kindOf (m .line .body)) (λ e. rw e (omega (arith, heads-tally ls)))
+        test (closes kindOf (m .line .body)) (λ e. rw e (omega (arith, heads-tally ls)))
         (λ e. rw e
         (omega (
           arith,

@@ -10,14 +10,13 @@ use lib.ListN.{length}
 use Rattle.tokenizer.specs.declared.event.Point.{Point}
 use Rattle.tokenizer.specs.declared.event.Event.{Event}
 use Rattle.tokenizer.specs.Events.{SpaceOrTab, Data, GfmTableRow, GfmTableCell, GfmTableCellText, GfmTableCellDivider, GfmTableDelimiterCell, GfmTableDelimiterCellValue, enter, leave, pointOf}
-use Rattle.tokenizer.specs.Lines.{blank}
 use Rattle.tokenizer.specs.Places.{Placed, placed}
 use Rattle.gfm_table.specs.Rows.{Passed, rowPieces, both}
 use Rattle.gfm_table.specs.Heads.{loneDivider, solid, allValues, values, headCells, alignments}
 use Rattle.gfm_table.specs.Raw.{textRow, delimiterRow}
 use Rattle.edit_map.specs.Tables.{isText, anyText, cells, rowInner, delimiterInner, firstPoint, boundary, cellEvents, resolvedText, resolvedRows, resolvedBody, resolvedTable}
 use Rattle.edit_map.specs.Align.{isEntry, isMarker}
-use Rattle.sheet.specs.Walk.{Found, bodyRows, tableOf, tables}
+use Rattle.sheet.specs.Walk.{Found, closes, bodyRows, tableOf, tables}
 use Rattle.sheet.specs.Demands.{entered, firstRow, Counted}
 use Rattle.sheet.proofs.Lists.{All, empty, also, all-append}
 use Rattle.sheet.proofs.Tests.{test, by-cases}
@@ -146,14 +145,14 @@ rows-none : (kind : ℕ → ℕ) (k : Placed) (ls : List Placed) → All (Silent
 unfolding resolvedRows bodyRows
 rows-none kind k [] = empty
 rows-none kind k (l ∷ ls) =
-    by-cases (λ z. All (Silent Value) (resolvedRows z)) (blank kind (l .line .body)) (λ e. empty)
+    by-cases (λ z. All (Silent Value) (resolvedRows z)) (closes kind (l .line .body)) (λ e. empty)
     (λ e. also refl (also refl (all-append (text-none kind (l .at) (l .line .body)) (rows-none kind l ls))))
 
 body-none : (kind : ℕ → ℕ) (k : Placed) (ls : List Placed) (e : Event) → All (Silent Value) (resolvedBody e (bodyRows kind k ls))
 unfolding bodyRows
 body-none kind k [] e = also refl empty
 body-none kind k (l ∷ ls) e =
-    by-cases (λ z. All (Silent Value) (resolvedBody e z)) (blank kind (l .line .body)) (λ f. also refl empty)
+    by-cases (λ z. All (Silent Value) (resolvedBody e z)) (closes kind (l .line .body)) (λ f. also refl empty)
     (λ f. also refl (also refl (also refl (all-append (text-none kind (l .at) (l .line .body)) (all-append (rows-none kind l ls) (also refl (also refl empty)))))))
 
 table-values : (kind : ℕ → ℕ) (l d : Placed) (ls : List Placed) → allValues kind (values kind (d .line .body)) ≡ true

@@ -9,6 +9,7 @@ use Rattle.sheet.proofs.Pieces.{covered}
 use Rattle.sheet.proofs.LineStarts.{starts}
 use Rattle.sheet.proofs.Told.{told-aligned}
 use Rattle.sheet.proofs.Walked.{walked}
+use Rattle.sheet.proofs.Remarks.{unquoted}
 
 pub demand : (kind : ℕ → ℕ) → Demand kind
 demand kind =
@@ -19,4 +20,5 @@ demand kind =
       starts = starts;
       told = told-aligned kind;
       walked = walked kind;
+      unquoted = unquoted kind;
     }

@@ -12,19 +12,20 @@ use Rattle.tokenizer.specs.declared.event.Point.{Point}
 use Rattle.tokenizer.specs.declared.event.Event.{Event}
 use Rattle.tokenizer.specs.Points.{start, columnPast}
 use Rattle.tokenizer.specs.Events.{GfmTableRow, GfmTableDelimiterRow}
-use Rattle.tokenizer.specs.Lines.{Line, lines, blank}
+use Rattle.tokenizer.specs.Lines.{Line, lines}
 use Rattle.tokenizer.specs.Places.{Placed, placed}
 use Rattle.gfm_table.specs.Rows.{Piece, Row, rowPieces, delimiterPieces, rawRow}
 use Rattle.gfm_table.specs.Raw.{rowAt, textRow}
 use Rattle.edit_map.specs.Tables.{BodyRow, rawTable, resolvedText, resolvedTable}
-use Rattle.sheet.specs.Walk.{Found, opens, lineEnd, bodyRows, heads, rows, tables}
+use Rattle.sheet.specs.Walk.{Found, closes, opens, lineEnd, bodyRows, heads, rows, tables}
 use Rattle.sheet.specs.Demands.{Each, none, more, Alike, rowsIn, begins, plain, Moved, OtherRow, OtherRows, Exchange}
 use Rattle.sheet.proofs.Lists.{All, all-members, each-weaken, each-with, each-cond}
 use Rattle.sheet.proofs.Alike.{AlikeRow, rawRow-alike, resolvedText-alike, resolvedDelimiter-alike}
 use Rattle.sheet.proofs.Tests.{by-cases}
 use Rattle.sheet.proofs.Walks.{starting, onward, foundAt, Kept, AlikeFound, rest-alike, rows-alike}
 use Rattle.sheet.proofs.Split.{after, Around, around}
-use Rattle.sheet.proofs.Beyond.{after-le, nonblank-length}
+use Rattle.sheet.proofs.Closing.{solid-length}
+use Rattle.sheet.proofs.Beyond.{after-le}
 use Rattle.sheet.proofs.Heading.{headed}
 use Rattle.sheet.proofs.RowsIn.{bodyEvents, resolvedDelimiter, raw-rows, resolved-rows}
 
@@ -36,8 +37,8 @@ module _ (kind : ℕ → ℕ) (on : Bool) where
   -- the walk stands in a body after these lines, if before them it looks for a head (true) or stands in a body (false)
   pub data Way : Bool → List Line → Type 0 where
     here : Way false []
-    closed : {l : Line} {ls : List Line} → blank kind (l .body) ≡ true → Way true ls → Way false (l ∷ ls)
-    row : {l : Line} {ls : List Line} → blank kind (l .body) ≡ false → Way false ls → Way false (l ∷ ls)
+    closed : {l : Line} {ls : List Line} → closes kind (l .body) ≡ true → Way true ls → Way false (l ∷ ls)
+    row : {l : Line} {ls : List Line} → closes kind (l .body) ≡ false → Way false ls → Way false (l ∷ ls)
     prose : {l d : Line} {ls : List Line} → opened l d ≡ false → Way true (d ∷ ls) → Way true (l ∷ d ∷ ls)
     head : {l d : Line} {ls : List Line} → opened l d ≡ true → Way false ls → Way true (l ∷ d ∷ ls)
 
@@ -48,7 +49,7 @@ module _ (kind : ℕ → ℕ) (on : Bool) where
     pub ms : List Line
     pub split : all ≡ ls ++ l ∷ ms
     pub way : Way b ls
-    pub solid : blank kind (l .body) ≡ false
+    pub solid : closes kind (l .body) ≡ false
     pub row : r .row ≡ textRow kind (after p ls) (l .body)
 
   -- one more line before a located one
@@ -65,10 +66,10 @@ module _ (kind : ℕ → ℕ) (on : Bool) where
   unfolding bodyRows placed after
   bodyRows-located k p [] r i = absurd (List·Memᴰ·not-nil i)
   bodyRows-located k p (l ∷ all) r i =
-      by-cases (λ z. List·Memᴰ r z → Located false p (l ∷ all) r) (blank kind (l .body)) (λ e j. absurd (List·Memᴰ·not-nil j))
+      by-cases (λ z. List·Memᴰ r z → Located false p (l ∷ all) r) (closes kind (l .body)) (λ e j. absurd (List·Memᴰ·not-nil j))
       (λ e j. pick e (λ i. bodyRows-located _ (onward p l) all r i) (List·Memᴰ·cases-cons j)) i
     where
-      pick : blank kind (l .body) ≡ false → (List·Memᴰ r (bodyRows kind (starting p l) (placed (onward p l) all)) → Located false (onward p l) all r)
+      pick : closes kind (l .body) ≡ false → (List·Memᴰ r (bodyRows kind (starting p l) (placed (onward p l) all)) → Located false (onward p l) all r)
           → (r ≡ record { before = lineEnd k; row = textRow kind p (l .body) }) ⊎ List·Memᴰ r (bodyRows kind (starting p l) (placed (onward p l) all))
           → Located false p (l ∷ all) r
       pick e f (inl q) = record { ls = []; l = l; ms = all; split = refl; way = here; solid = e; row = ap (λ (z : BodyRow). z .row) q }
@@ -92,7 +93,7 @@ module _ (kind : ℕ → ℕ) (on : Bool) where
     rows-located : (p : Point) (all : List Line) (f : Found) (r : BodyRow) → List·Memᴰ f (rows kind on (placed p all)) → List·Memᴰ r (f .table .body) → Located false p all r
     rows-located p [] f r i j = absurd (List·Memᴰ·not-nil i)
     rows-located p (l ∷ all) f r i j =
-        by-cases (λ z. List·Memᴰ f z → Located false p (l ∷ all) r) (blank kind (l .body))
+        by-cases (λ z. List·Memᴰ f z → Located false p (l ∷ all) r) (closes kind (l .body))
         (λ e k. let w = heads-located (onward p l) all f r k j in further l w (closed e (w .way)))
         (λ e k. let w = rows-located (onward p l) all f r k j in further l w (row e (w .way)))
         i
@@ -149,7 +150,7 @@ module _ (kind : ℕ → ℕ) (p : Point) (old new : List ℕ) where
 
 -- ## The walk over the exchanged line
 
-module _ (kind : ℕ → ℕ) (on : Bool) (l m : Line) (ms : List Line) (end : l .end ≡ m .end) (solidL : blank kind (l .body) ≡ false) (solidM : blank kind (m .body) ≡ false) where
+module _ (kind : ℕ → ℕ) (on : Bool) (l m : Line) (ms : List Line) (end : l .end ≡ m .end) (solidL : closes kind (l .body) ≡ false) (solidM : closes kind (m .body) ≡ false) where
   -- the points behind the two lines
   abbrev Next : Point → Point → Point → Type 0
   Next p = Behind (p .index) (length (l .body)) (length (m .body))
@@ -161,7 +162,7 @@ module _ (kind : ℕ → ℕ) (on : Bool) (l m : Line) (ms : List Line) (end : l
   next-behind p =
       record {
         moved = record { line = refl; column = refl; index = omega arith; vs = refl };
-        far = omega (arith, nonblank-length kind (l .body) solidL);
+        far = omega (arith, solid-length kind (l .body) solidL);
         clear = omega arith;
       }
 
@@ -172,7 +173,7 @@ module _ (kind : ℕ → ℕ) (on : Bool) (l m : Line) (ms : List Line) (end : l
       rw (solidL, solidM)
       (more here (each-weaken (λ b c h. behind h) (rows-alike kind _ (next-kept p) _ _ (next-behind p) ms)))
   rows-other k p (j ∷ ls) =
-      each-cond {b = blank kind (j .body)} refl none
+      each-cond {b = closes kind (j .body)} refl none
       (more (before p (j .body) (omega (arith, after-le ls (onward p j)))) (rows-other _ (onward p j) ls))
 
   found-other : (p : Point) (j d : Line) (ls : List Line)
@@ -209,7 +210,7 @@ append-inj x u y v e n = (
 )
 
 module _ (kind : ℕ → ℕ) (on : Bool) (x old new y : List ℕ) (r : BodyRow) (from : r .row .entry .index ≡ length x) (to : r .row .exit .index ≡ length x + length old)
-    (p : plain new ≡ true) (solid : blank kind new ≡ false) where
+    (p : plain new ≡ true) (solid : closes kind new ≡ false) where
   lines-exchanged : (w : Located kind on true start (lines (x ++ (old ++ y))) r) → Around (x ++ (old ++ y)) (w .ls) (w .l) (w .ms)
       → (old ≡ w .l .body) × (length x ≡ after start (w .ls) .index) × (lines (x ++ (new ++ y)) ≡ w .ls ++ record { body = new; end = w .l .end } ∷ w .ms)
   lines-exchanged w c =
@@ -218,7 +219,7 @@ module _ (kind : ℕ → ℕ) (on : Bool) (x old new y : List ℕ) (r : BodyRow)
       let there = ap (λ (z : Row). z .exit .index) (w .row) in
       let f = append-inj x (old ++ y) (c .x) (w .l .body ++ c .y) (c .whole) (omega arith) in
       let g = append-inj old y (w .l .body) (c .y) (f .1) (omega arith) in
-      (g .0, here, ap₂ (λ (a b : List ℕ). lines (a ++ (new ++ b))) (f .0) (g .1) ∙ c .swap new p (nonblank-length kind new solid))
+      (g .0, here, ap₂ (λ (a b : List ℕ). lines (a ++ (new ++ b))) (f .0) (g .1) ∙ c .swap new p (solid-length kind new solid))
 
   sheets-other : (w : Located kind on true start (lines (x ++ (old ++ y))) r)
       → (length x ≡ after start (w .ls) .index) × Each (Pairs kind (after start (w .ls)) old new) (tables kind on (x ++ (old ++ y))) (tables kind on (x ++ (new ++ y)))

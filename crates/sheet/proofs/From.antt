@@ -5,66 +5,36 @@ use mathlib.Core.Path.{_≡_, refl, ap, sym, _∙_}
 use mathlib.Core.Bool.{Bool, true, false, cond, _&&_, _||_, not, and-false, false≢true}
 use mathlib.Core.List.{List, [], _∷_}
 use native.Mathlib.Omega.{arith}
-use borrow.Author.Tests.{eq-eqb, ne-eqb, eqb-true, ltb-true, lt-ltb}
+use borrow.Author.Tests.{eq-eqb, ne-eqb, ltb-true, lt-ltb}
 use lib.Dec.{eqb, ltb}
 use lib.ListN.{length, drop}
 use Rattle.tokenizer.specs.declared.event.Point.{Point}
 use Rattle.tokenizer.specs.Bytes.{kindOf}
 use Rattle.tokenizer.specs.Points.{start}
-use Rattle.tokenizer.specs.Lines.{lineBody, endAt, unindented, blank}
+use Rattle.tokenizer.specs.Lines.{lineBody, endAt}
 use Rattle.tokenizer.specs.Places.{Placed, linesFrom, linesPast}
 use Rattle.tokenizer.specs.Moves.{restOf, lineAt, after, Inside}
 use Rattle.tokenizer.proofs.Places.{lines-from}
 use Rattle.tokenizer.proofs.Ends.{end-past, body-inside, after-inside}
-use Rattle.gfm_table.specs.Rows.{Piece, onPieces, oddAfter, rowPieces}
-use Rattle.gfm_table.specs.Heads.{solid, permitted, loneDivider, marked, values, allValues, isDelimiterRow, headCells, headRefusal}
+use Rattle.gfm_table.specs.Rows.{rowPieces}
+use Rattle.gfm_table.specs.Heads.{solid, permitted, loneDivider, marked, values, allValues, isDelimiterRow, headCells}
 use Rattle.gfm_table.specs.Delimiters.{valueCount}
 use Rattle.gfm_table.specs.Places.{pointIn}
 use Rattle.gfm_table.proofs.ValuePlaces.{row-counted, count-values}
 use Rattle.sheet.proofs.Tests.{test}
-use Rattle.sheet.specs.Walk.{opens, found, heads, rows}
+use Rattle.sheet.specs.Walk.{closes, opens, found, heads, rows}
 use Rattle.sheet.specs.From.{AtLine, columnsIf, columnsOf, Opens, here}
 
 -- a sheet starts with a line
 pub start-line : (s : List ℕ) → length s ≤ 65536 → AtLine s start
 start-line s h = record { inside = record { short = h; within = omega arith; narrow = omega arith; lined = omega arith; flat = refl }; first = refl }
 
--- ## A blank line is no head
+-- ## A line that ends a table is no head
 
-on-space : (b : ℕ) (ps : List Piece) → solid (onPieces 1 b ps) ≡ solid ps
-unfolding solid
-on-space b [] = refl
-on-space b (p ∷ ps) = test (eqb 1 (p .name)) (λ e. rw (e, ← eqb-true 1 (p .name) e)) (λ e. rw e)
-
-module _ (kind : ℕ → ℕ) where
-  blank-solid : (odd : Bool) (u : List ℕ) → blank kind u ≡ true → solid (rowPieces kind odd u) ≡ []
-  unfolding rowPieces solid unindented
-  blank-solid odd [] h = refl
-  blank-solid odd (b ∷ u) h =
-      test (eqb (kind b) 1)
-      (λ e. rw e (on-space b (rowPieces kind (oddAfter kind odd b) u) ∙ blank-solid (oddAfter kind odd b) u (rw e at h)))
-      (λ e. absurd (false≢true (rw e at h)))
-
-  module _ (on : Bool) where
-    opens-yes : (l d : Placed) → headRefusal kind on false (l .line) (d .line) ≡ 0 → opens kind on l d ≡ true
-    opens-yes l d h = test (blank kind (l .line .body)) (λ e. absurd (go (permitted kind on (l .line .body)) (eqb (l .line .end) 0) _ (rw (blank-solid false (l .line .body) e) at h))) (λ e. rw (e, eq-eqb _ 0 h))
-      where
-        go : (a b : Bool) (n : ℕ) → _≡_ {A = ℕ} (cond (not a) 3 (cond (b || true) 4 n)) 0 → ⊥
-        go true true n e = omega arith
-        go true false n e = omega arith
-        go false b n e = omega arith
-
-    opens-no : (l d : Placed) → (headRefusal kind on false (l .line) (d .line) ≡ 0 → ⊥) → opens kind on l d ≡ false
-    opens-no l d h = rw (ne-eqb _ 0 h) (go (blank kind (l .line .body)))
-      where
-        go : (t : Bool) → not t && false ≡ false
-        go true = refl
-        go false = refl
-
-    heads-blank : (l : Placed) (ls : List Placed) → blank kind (l .line .body) ≡ true → heads kind on (l ∷ ls) ≡ heads kind on ls
-    unfolding heads
-    heads-blank l [] e = refl
-    heads-blank l (d ∷ ls) e = rw e
+heads-closed : (kind : ℕ → ℕ) (on : Bool) (l : Placed) (ls : List Placed) → closes kind (l .line .body) ≡ true → heads kind on (l ∷ ls) ≡ heads kind on ls
+unfolding heads
+heads-closed kind on l [] e = refl
+heads-closed kind on l (d ∷ ls) e = rw e
 
 -- ## The next line
 
@@ -85,13 +55,13 @@ module _ (s : List ℕ) (p : Point) where
     unfolding heads
     heads-last e = rw (lines-from s p, past-last e)
 
-    pub heads-at-blank : blank kindOf (restOf s p) ≡ true → heads kindOf on (linesFrom s p) ≡ heads kindOf on (linesPast s p)
-    heads-at-blank e = rw (lines-from s p) (heads-blank kindOf on (here s p) (linesPast s p) e)
+    pub heads-at-closing : closes kindOf (restOf s p) ≡ true → heads kindOf on (linesFrom s p) ≡ heads kindOf on (linesPast s p)
+    heads-at-closing e = rw (lines-from s p) (heads-closed kindOf on (here s p) (linesPast s p) e)
 
     module _ (z : lineAt s p .end ≡ 0 → ⊥) where
-      pub heads-prose : (headRefusal kindOf on false (lineAt s p) (lineAt s (after s p)) ≡ 0 → ⊥) → heads kindOf on (linesFrom s p) ≡ heads kindOf on (linesFrom s (after s p))
+      pub heads-prose : opens kindOf on (here s p) (here s (after s p)) ≡ false → heads kindOf on (linesFrom s p) ≡ heads kindOf on (linesFrom s (after s p))
       unfolding heads
-      heads-prose h = rw (lines-from s p, past-more z, lines-from s (after s p), opens-no kindOf on (here s p) (here s (after s p)) h)
+      heads-prose e = rw (lines-from s p, past-more z, lines-from s (after s p), e)
 
       heads-open : opens kindOf on (here s p) (here s (after s p)) ≡ true
           → heads kindOf on (linesFrom s p) ≡ found kindOf on (here s p) (here s (after s p)) (linesPast s (after s p)) ∷ rows kindOf on (linesPast s (after s p))
@@ -122,24 +92,26 @@ module _ (s : List ℕ) (l i e n : ℕ) (f : e ≡ i + length (lineBody (drop i 
 
 -- ## A line is tried as a head
 
--- by the answers: the head line's indent is permitted, it has no line end, it is a lone divider, the next line is a delimiter row, its values are as many as the cells
-no-columns : (a e b r : Bool) (n : ℕ) (t : Bool) → (r ≡ true → 0 < n) → cond (r && a) (cond (not b && t) n 0) 0 ≡ 0
-    → _≡_ {A = ℕ} (cond (not a) 3 (cond (e || b) 4 (cond false 5 (cond (not r) 6 (cond (not t) 7 0))))) 0 → ⊥
-no-columns false e b r n t f g h = omega arith
-no-columns true true b r n t f g h = omega arith
-no-columns true false true r n t f g h = omega arith
-no-columns true false false false n t f g h = omega arith
-no-columns true false false true n false f g h = omega arith
-no-columns true false false true n true f g h = omega (arith, f refl, g)
+-- by the answers: the head line's indent is permitted, it has no line end, it is a lone divider, it ends a table, the next line is a delimiter row, its values are as many as the cells
+no-columns : (a e b c r : Bool) (n : ℕ) (t : Bool) → (r ≡ true → 0 < n) → cond (r && (a && not c)) (cond (not b && t) n 0) 0 ≡ 0
+    → not c && eqb (cond (not a) 3 (cond (e || b) 4 (cond false 5 (cond (not r) 6 (cond (not t) 7 0))))) 0 ≡ false
+no-columns a e b true r n t f g = refl
+no-columns false e b false r n t f g = refl
+no-columns true true b false r n t f g = refl
+no-columns true false true false r n t f g = refl
+no-columns true false false false false n t f g = refl
+no-columns true false false false true n false f g = refl
+no-columns true false false false true n true f g = absurd (omega (arith, f refl, g))
 
 -- the same answers, with a line end
-some-columns : (a b r : Bool) (n : ℕ) (t : Bool) → (cond (r && a) (cond (not b && t) n 0) 0 ≡ 0 → ⊥)
-    → (_≡_ {A = ℕ} (cond (not a) 3 (cond (false || b) 4 (cond false 5 (cond (not r) 6 (cond (not t) 7 0))))) 0) × (cond (r && a) (cond (not b && t) n 0) 0 ≡ n)
-some-columns true false true n true f = (refl, refl)
-some-columns a b false n t f = absurd (f refl)
-some-columns false b true n t f = absurd (f refl)
-some-columns true true true n t f = absurd (f refl)
-some-columns true false true n false f = absurd (f refl)
+some-columns : (a b c r : Bool) (n : ℕ) (t : Bool) → (cond (r && (a && not c)) (cond (not b && t) n 0) 0 ≡ 0 → ⊥)
+    → (not c && eqb (cond (not a) 3 (cond (false || b) 4 (cond false 5 (cond (not r) 6 (cond (not t) 7 0))))) 0 ≡ true) × (cond (r && (a && not c)) (cond (not b && t) n 0) 0 ≡ n)
+some-columns true false false true n true f = (refl, refl)
+some-columns a b c false n t f = absurd (f refl)
+some-columns false b c true n t f = absurd (f refl)
+some-columns true b true true n t f = absurd (f refl)
+some-columns true true false true n t f = absurd (f refl)
+some-columns true false false true n false f = absurd (f refl)
 
 -- a delimiter row has values
 row-some : (a b : Bool) (n : ℕ) (c : Bool) → a && (b && (ltb 0 n && c)) ≡ true → 0 < n
@@ -159,16 +131,16 @@ module _ (s : List ℕ) (on : Bool) (p : Point) where
   row = restOf s (after s p)
 
   -- no columns, no head
-  pub columns-none : columnsOf s on (p .index) (after s p .index) ≡ 0 → headRefusal kindOf on false (lineAt s p) (lineAt s (after s p)) ≡ 0 → ⊥
+  pub columns-none : columnsOf s on (p .index) (after s p .index) ≡ 0 → opens kindOf on (here s p) (here s (after s p)) ≡ false
   columns-none =
-      no-columns (permitted kindOf on head) (eqb (lineAt s p .end) 0) (loneDivider (solid (rowPieces kindOf false head))) (isDelimiterRow kindOf on row) (length (values kindOf row))
+      no-columns (permitted kindOf on head) (eqb (lineAt s p .end) 0) (loneDivider (solid (rowPieces kindOf false head))) (closes kindOf head) (isDelimiterRow kindOf on row) (length (values kindOf row))
       (eqb (length (values kindOf row)) (headCells kindOf head)) (row-some (permitted kindOf on row) (marked kindOf row) (length (values kindOf row)) (allValues kindOf (values kindOf row)))
 
   -- some columns, a head with as many values
   columns-some : (lineAt s p .end ≡ 0 → ⊥) → (columnsOf s on (p .index) (after s p .index) ≡ 0 → ⊥)
-      → (headRefusal kindOf on false (lineAt s p) (lineAt s (after s p)) ≡ 0) × (columnsOf s on (p .index) (after s p .index) ≡ length (values kindOf row))
+      → (opens kindOf on (here s p) (here s (after s p)) ≡ true) × (columnsOf s on (p .index) (after s p .index) ≡ length (values kindOf row))
   columns-some z h =
-      let y = some-columns (permitted kindOf on head) (loneDivider (solid (rowPieces kindOf false head))) (isDelimiterRow kindOf on row) (length (values kindOf row)) (eqb (length (values kindOf row)) (headCells kindOf head)) h in
+      let y = some-columns (permitted kindOf on head) (loneDivider (solid (rowPieces kindOf false head))) (closes kindOf head) (isDelimiterRow kindOf on row) (length (values kindOf row)) (eqb (length (values kindOf row)) (headCells kindOf head)) h in
       (rw (ne-eqb (lineAt s p .end) 0 z) (y .0), y .1)
 
 -- ## Its columns, counted
@@ -189,11 +161,20 @@ module _ (s : List ℕ) (on : Bool) (i d : ℕ) where
   pub columns-head : permitted kindOf on (lineBody (drop i s)) ≡ false → 0 ≡ columnsOf s on i d
   columns-head h = rw (h, and-false (isDelimiterRow kindOf on counted))
 
-  -- the next line has values, and both indents are permitted
-  pub columns-both : (valueCount counted ≡ 0 → ⊥) → permitted kindOf on counted ≡ true → permitted kindOf on (lineBody (drop i s)) ≡ true → columnsIf s i (valueCount counted) ≡ columnsOf s on i d
-  columns-both z h k =
+  -- the head line is blank or a remark
+  pub columns-closed : closes kindOf (lineBody (drop i s)) ≡ true → 0 ≡ columnsOf s on i d
+  columns-closed h = rw (h, and-false (permitted kindOf on (lineBody (drop i s))), and-false (isDelimiterRow kindOf on counted))
+
+  -- the next line has values, both indents are permitted, and the head line is neither
+  pub columns-both : (valueCount counted ≡ 0 → ⊥) → permitted kindOf on counted ≡ true → permitted kindOf on (lineBody (drop i s)) ≡ true → closes kindOf (lineBody (drop i s)) ≡ false → columnsIf s i (valueCount counted) ≡ columnsOf s on i d
+  columns-both z h k w =
       let v : 0 < valueCount counted = omega (arith, z) in
-      rw (row-counted counted on, h, k, lt-ltb 0 (valueCount counted) v) (ap (columnsIf s i) (count-values counted v))
+      rw (row-counted counted on, h, k, w, lt-ltb 0 (valueCount counted) v) (ap (columnsIf s i) (count-values counted v))
+
+  -- the head line has other cells, whatever it is
+  pub columns-other : (valueCount counted ≡ 0 → ⊥) → permitted kindOf on counted ≡ true → permitted kindOf on (lineBody (drop i s)) ≡ true → columnsIf s i (valueCount counted) ≡ 0
+      → 0 ≡ columnsOf s on i d
+  columns-other z h k e = test (closes kindOf (lineBody (drop i s))) (λ w. columns-closed w) (λ w. sym e ∙ columns-both z h k w)
 
 -- a head that is found at a line from which the same tables come
 pub opened-here : (s : List ℕ) (on : Bool) (p : Point) (l i d c : ℕ) → AtLine s (pointIn l i 1) → (lineAt s (pointIn l i 1) .end ≡ 0 → ⊥) → heads kindOf on (linesFrom s (pointIn l i 1)) ≡ heads kindOf on (linesFrom s p)
@@ -207,5 +188,5 @@ opened-here s on p l i d c h z e f g k =
       ended = z;
       delimiter = f;
       columns = x ∙ y .1 ∙ ap (λ (j : ℕ). length (values kindOf (lineBody (drop j s)))) (sym f);
-      tables = sym e ∙ heads-open s q on z (opens-yes kindOf on (here s q) (here s (after s q)) (y .0));
+      tables = sym e ∙ heads-open s q on z (y .0);
     }

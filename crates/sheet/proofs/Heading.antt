@@ -7,9 +7,9 @@ use mathlib.Core.Logic.{⊎-elim}
 use mathlib.Core.Bool.{Bool}
 use Rattle.tokenizer.specs.declared.event.Point.{Point}
 use Rattle.tokenizer.specs.Points.{start}
-use Rattle.tokenizer.specs.Lines.{Line, lines, blank}
+use Rattle.tokenizer.specs.Lines.{Line, lines}
 use Rattle.tokenizer.specs.Places.{Placed, placed}
-use Rattle.sheet.specs.Walk.{Found, opens, heads, rows, tables}
+use Rattle.sheet.specs.Walk.{Found, closes, opens, heads, rows, tables}
 use Rattle.sheet.proofs.Tests.{by-cases}
 use Rattle.sheet.proofs.Walks.{starting, onward, foundAt, Head, opens-head}
 
@@ -57,7 +57,7 @@ module _ (kind : ℕ → ℕ) (on : Bool) where
     rows-headed : (p : Point) (all : List Line) (f : Found) → List·Memᴰ f (rows kind on (placed p all)) → HeadAt p all f
     rows-headed p [] f i = absurd (List·Memᴰ·not-nil i)
     rows-headed p (l ∷ all) f i =
-        by-cases (λ z. List·Memᴰ f z → HeadAt p (l ∷ all) f) (blank kind (l .body))
+        by-cases (λ z. List·Memᴰ f z → HeadAt p (l ∷ all) f) (closes kind (l .body))
         (λ e k. under l (heads-headed (onward p l) all f k)) (λ e k. under l (rows-headed (onward p l) all f k)) i
 
   pub headed : (s : List ℕ) (f : Found) → List·Memᴰ f (tables kind on s) → HeadAt start (lines s) f

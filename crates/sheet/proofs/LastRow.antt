@@ -9,11 +9,11 @@ use lib.ListN.{length, drop}
 use Rattle.tokenizer.specs.declared.event.Event.{Event}
 use Rattle.tokenizer.specs.Bytes.{kindOf}
 use Rattle.tokenizer.specs.Events.{GfmTableHead, leave, pointOf}
-use Rattle.tokenizer.specs.Lines.{lineBody, blank}
+use Rattle.tokenizer.specs.Lines.{lineBody}
 use Rattle.tokenizer.specs.Places.{Placed, endOf, linesFrom, linesPast}
 use Rattle.tokenizer.specs.Moves.{restOf, lineAt, after}
 use Rattle.edit_map.specs.Tables.{BodyRow, lastExit}
-use Rattle.sheet.specs.Walk.{bodyRows, heads, rows}
+use Rattle.sheet.specs.Walk.{closes, bodyRows, heads, rows}
 use Rattle.gfm_table.specs.Heads.{values}
 use Rattle.gfm_table.specs.Places.{pointIn}
 use Rattle.sheet.specs.declared.seek.Opening.{Opening}
@@ -38,13 +38,13 @@ module _ (s : List ℕ) (p : Point) where
   last-end e = ap (λ (ls : List Placed). pointOf (lastExit (leave GfmTableHead (endOf (here s p))) (bodyRows kindOf (here s p) ls))) (past-last s p e)
 
   module _ (z : lineAt s p .end ≡ 0 → ⊥) where
-    -- a blank line is next
-    pub last-blank : blank kindOf (restOf s (after s p)) ≡ true → lastPoint s p ≡ endOf (here s p)
+    -- a line is next that ends the table
+    pub last-closed : closes kindOf (restOf s (after s p)) ≡ true → lastPoint s p ≡ endOf (here s p)
     unfolding bodyRows lastExit
-    last-blank b = ap (λ (ls : List Placed). pointOf (lastExit (leave GfmTableHead (endOf (here s p))) (bodyRows kindOf (here s p) ls))) (next-lines s p z) ∙ rw b
+    last-closed b = ap (λ (ls : List Placed). pointOf (lastExit (leave GfmTableHead (endOf (here s p))) (bodyRows kindOf (here s p) ls))) (next-lines s p z) ∙ rw b
 
     -- a row is next
-    pub last-row : blank kindOf (restOf s (after s p)) ≡ false → lastPoint s p ≡ lastPoint s (after s p)
+    pub last-row : closes kindOf (restOf s (after s p)) ≡ false → lastPoint s p ≡ lastPoint s (after s p)
     unfolding bodyRows lastExit
     last-row b =
         ap (λ (ls : List Placed). pointOf (lastExit (leave GfmTableHead (endOf (here s p))) (bodyRows kindOf (here s p) ls))) (next-lines s p z)

@@ -1,5 +1,6 @@
 -- What the proofs of this crate use: of the code first, then of demand 3.
 pub mod Tests
+pub mod Closing
 pub mod From
 pub mod Stops
 pub mod Bounds
@@ -32,5 +33,6 @@ pub mod Tiles
 pub mod Pieces
 pub mod Told
 pub mod Walked
+pub mod Remarks
 pub mod Demand
 pub mod Instances

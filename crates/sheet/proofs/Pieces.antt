@@ -10,10 +10,10 @@ use Rattle.tokenizer.specs.declared.event.Point.{Point}
 use Rattle.tokenizer.specs.declared.event.Event.{Event}
 use Rattle.tokenizer.specs.Points.{past, start}
 use Rattle.tokenizer.specs.Events.{GfmTableRow, GfmTableDelimiterRow, leave}
-use Rattle.tokenizer.specs.Lines.{Line, lines, blank}
+use Rattle.tokenizer.specs.Lines.{Line, lines}
 use Rattle.tokenizer.specs.Places.{Placed, placed}
 use Rattle.edit_map.specs.Tables.{Table, rawTable, resolvedTable, lastExit}
-use Rattle.sheet.specs.Walk.{Found, opens, bodyRows, heads, rows, tables, rawOf, resolvedOf}
+use Rattle.sheet.specs.Walk.{Found, closes, opens, bodyRows, heads, rows, tables, rawOf, resolvedOf}
 use Rattle.sheet.specs.Demands.{holding, lastEnd, Covers, Covered}
 use Rattle.sheet.proofs.Tests.{test, by-cases}
 use Rattle.sheet.proofs.Walks.{starting, onward}
@@ -42,7 +42,7 @@ module _ (kind : ℕ → ℕ) (on : Bool) where
         → Spread (lastExit e (bodyRows kind k (placed p ls)) .index) (rows kind on (placed p ls))
     rows-spread e k p [] h = none
     rows-spread e k p (l ∷ ls) h =
-        test (blank kind (l .body)) (λ f. rw f (heads-spread (e .index) (onward p l) ls (omega arith)))
+        test (closes kind (l .body)) (λ f. rw f (heads-spread (e .index) (onward p l) ls (omega arith)))
         (λ f. rw f (rows-spread (leave GfmTableRow (past p (l .body))) (starting p l) (onward p l) ls (omega arith)))
 
 -- the events of all tables, made of those of each

@@ -14,7 +14,7 @@ use Rattle.tokenizer.specs.Bytes.{kindOf}
 use Rattle.tokenizer.specs.Points.{start, past, nextLine}
 use Rattle.tokenizer.specs.Events.{LineEnding, GfmTableHead, GfmTableRow, enter, leave, pointOf}
 use Rattle.tokenizer.specs.Slots.{wrote}
-use Rattle.tokenizer.specs.Lines.{Line, endAt, lines, blank}
+use Rattle.tokenizer.specs.Lines.{Line, endAt, lines}
 use Rattle.tokenizer.specs.Places.{Placed, placed, endOf, linesPast}
 use Rattle.tokenizer.specs.Moves.{restOf, lineAt, after, Inside}
 use Rattle.tokenizer.proofs.Ends.{body-inside, stop-rest, after-inside}
@@ -29,7 +29,7 @@ use Rattle.edit_map.specs.Tables.{BodyRow, rawBody, rawTable, lastExit}
 use Rattle.sheet.specs.declared.tables.Written.{Written}
 use Rattle.sheet.specs.declared.spans.Where.{Where}
 use Rattle.sheet.specs.declared.spans.Span.{Span}
-use Rattle.sheet.specs.Walk.{Found, lineEnd, bodyRows, tables, rawOf}
+use Rattle.sheet.specs.Walk.{Found, closes, lineEnd, bodyRows, tables, rawOf}
 use Rattle.sheet.specs.From.{here}
 use Rattle.sheet.specs.Spans.{headOf, lastPoint, lastStop, Spanned}
 use Rattle.sheet.specs.Placing.{pointAt, writtenAt, AtEnd, Few, rowEvents, nextEvents, headsEvents, rowsAfter, tableAt}
@@ -158,7 +158,7 @@ module _ (s : List ℕ) where
   unfolding lastExit bodyRows placed
   last-least e l q [] h = omega arith
   last-least e l q (m ∷ ms) h =
-      test (blank kindOf (m .body)) (λ b. rw b (omega arith))
+      test (closes kindOf (m .body)) (λ b. rw b (omega arith))
       (λ b. rw b
       (omega (
         arith,
@@ -187,16 +187,16 @@ module _ (s : List ℕ) where
   -- whether a row is next
   data Next (p : Point) : Type 0 where
     none : rowsAt p ≡ [] → Next p
-    some : (lineAt s p .end ≡ 0 → ⊥) → blank kindOf (restOf s (after s p)) ≡ false → Next p
+    some : (lineAt s p .end ≡ 0 → ⊥) → closes kindOf (restOf s (after s p)) ≡ false → Next p
 
   next-of : (p : Point) → Next p
   unfolding bodyRows
   next-of p =
       test (eqb (lineAt s p .end) 0) (λ e. none (ap (bodyRows kindOf (here s p)) (past-last s p (eqb-true (lineAt s p .end) 0 e))))
       (λ e. let z = eqb-false (lineAt s p .end) 0 e in
-      test (blank kindOf (restOf s (after s p))) (λ b. none (ap (bodyRows kindOf (here s p)) (next-lines s p z) ∙ rw b)) (λ b. some z b))
+      test (closes kindOf (restOf s (after s p))) (λ b. none (ap (bodyRows kindOf (here s p)) (next-lines s p z) ∙ rw b)) (λ b. some z b))
 
-  module _ (p : Point) (z : lineAt s p .end ≡ 0 → ⊥) (b : blank kindOf (restOf s (after s p)) ≡ false) where
+  module _ (p : Point) (z : lineAt s p .end ≡ 0 → ⊥) (b : closes kindOf (restOf s (after s p)) ≡ false) where
     next-rows : rowsAfter s p ≡ nextEvents s Body p ++ rowsAfter s (after s p)
     unfolding bodyRows rawBody
     next-rows = ap (λ (ls : List Placed). rawBody (bodyRows kindOf (here s p) ls)) (next-lines s p z) ∙ rw b
@@ -222,7 +222,7 @@ module _ (s : List ℕ) where
       pub more : (zs : List Event) → makes a zs ≡ makes (onward a) (wrote (a .slot) (nextEvents s Body (pointAt a)) zs)
       pub long : a .at < onward a .at
 
-    goes-row : (a : Written) → Good a → (lineAt s (pointAt a) .end ≡ 0 → ⊥) → blank kindOf (restOf s (after s (pointAt a))) ≡ false → Goes a
+    goes-row : (a : Written) → Good a → (lineAt s (pointAt a) .end ≡ 0 → ⊥) → closes kindOf (restOf s (after s (pointAt a))) ≡ false → Goes a
     goes-row a h z b =
         let p = pointAt a in
         let q = after s p in

@@ -13,7 +13,7 @@ use Rattle.tokenizer.specs.declared.event.Event.{Event}
 use Rattle.tokenizer.specs.Bytes.{kindOf}
 use Rattle.tokenizer.specs.Points.{past, nextLine}
 use Rattle.tokenizer.specs.Events.{GfmTable, GfmTableBody, GfmTableHead, GfmTableRow, enter, leave, pointOf}
-use Rattle.tokenizer.specs.Lines.{Line, lines, blank}
+use Rattle.tokenizer.specs.Lines.{Line, lines}
 use Rattle.tokenizer.specs.Places.{Placed, placed, endOf, linesPast}
 use Rattle.tokenizer.specs.Slots.{wrote, pastIf, eventIf}
 use Rattle.tokenizer.specs.Moves.{restOf, lineAt, after, Inside}
@@ -24,7 +24,7 @@ use Rattle.gfm_table.specs.declared.stream.Part.the-variants.{Delimiter, Body}
 use Rattle.gfm_table.specs.Rows.{both}
 use Rattle.gfm_table.specs.Raw.{textRow}
 use Rattle.edit_map.specs.Tables.{BodyRow, resolvedText, resolvedRows, resolvedBody, resolvedTable, lastExit}
-use Rattle.sheet.specs.Walk.{lineEnd, bodyRows}
+use Rattle.sheet.specs.Walk.{closes, lineEnd, bodyRows}
 use Rattle.sheet.specs.From.{here}
 use Rattle.sheet.specs.declared.tables.Written.{Written}
 use Rattle.sheet.specs.Spans.{lastPoint, lastStop}
@@ -47,7 +47,7 @@ last-onward : (e : Event) (l : Placed) (p : Point) (ls : List Line) → e .index
 unfolding lastExit bodyRows placed
 last-onward e l p [] h = omega arith
 last-onward e l p (m ∷ ms) h =
-    test (blank kindOf (m .body)) (λ b. rw b (omega arith))
+    test (closes kindOf (m .body)) (λ b. rw b (omega arith))
     (λ b.
     rw b
     (let q = past p (m .body) in
@@ -92,7 +92,7 @@ next s p =
     (λ e.
     let z = eqb-false (lineAt s p .end) 0 e in
     let l = ap (bodyRows kindOf (here s p)) (past-more s p z ∙ lines-from s (after s p)) in
-    test (blank kindOf (restOf s (after s p))) (λ b. none (l ∙ rw b)) (λ b. some z (l ∙ rw b)))
+    test (closes kindOf (restOf s (after s p))) (λ b. none (l ∙ rw b)) (λ b. some z (l ∙ rw b)))
 
 -- where the last row is left
 last-none : (s : List ℕ) (p : Point) → bodyAfter s p ≡ [] → lastPoint s p ≡ endOf (here s p)
@@ -229,7 +229,7 @@ module _ (s : List ℕ) (from stop : ℕ) where
 last-flat : (e : Event) (l : Placed) (ls : List Placed) → e .vs ≡ 0 → lastExit e (bodyRows kindOf l ls) .vs ≡ 0
 unfolding lastExit bodyRows
 last-flat e l [] h = h
-last-flat e l (m ∷ ms) h = test (blank kindOf (m .line .body)) (λ b. rw b h) (λ b. rw b (last-flat (leave GfmTableRow (past (m .at) (m .line .body))) m ms refl))
+last-flat e l (m ∷ ms) h = test (closes kindOf (m .line .body)) (λ b. rw b h) (λ b. rw b (last-flat (leave GfmTableRow (past (m .at) (m .line .body))) m ms refl))
 
 opened-body : (e : Event) (r : BodyRow) (bs : List BodyRow) → resolvedBody e (r ∷ bs) ≡ openedRows (r ∷ bs) ++ endResult true (pointOf (lastExit (r .row .exit) bs))
 opened-body e r bs =

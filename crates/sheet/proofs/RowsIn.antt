@@ -7,12 +7,11 @@ use mathlib.Core.Bool.{true, false}
 use Rattle.tokenizer.specs.declared.event.Point.{Point}
 use Rattle.tokenizer.specs.declared.event.Event.{Event}
 use Rattle.tokenizer.specs.Events.{GfmTableDelimiterCell, enter, leave}
-use Rattle.tokenizer.specs.Lines.{blank}
 use Rattle.tokenizer.specs.Places.{Placed}
 use Rattle.gfm_table.specs.Rows.{Row, rawRow}
 use Rattle.gfm_table.specs.Raw.{textRow, delimiterRow}
 use Rattle.edit_map.specs.Tables.{BodyRow, rawBody, rawTable, delimiterInner, resolvedRow, resolvedText, resolvedRows, resolvedBody, resolvedTable}
-use Rattle.sheet.specs.Walk.{bodyRows, tableOf}
+use Rattle.sheet.specs.Walk.{closes, bodyRows, tableOf}
 use Rattle.sheet.specs.Demands.{isRow, entersRow, leavesRow, throughRow, rowsIn}
 use Rattle.sheet.proofs.Lists.{All, empty, also}
 use Rattle.sheet.proofs.Tests.{by-cases}
@@ -107,21 +106,21 @@ module _ (kind : ℕ → ℕ) where
   unfolding rawBody bodyRows bodyEvents
   rawBody-rows k [] = nothing
   rawBody-rows k (l ∷ ls) =
-      by-cases (λ z. Whole (rawBody z) (bodyEvents rawRow z)) (blank kind (l .line .body)) (λ e. nothing)
+      by-cases (λ z. Whole (rawBody z) (bodyEvents rawRow z)) (closes kind (l .line .body)) (λ e. nothing)
       (λ e. other refl (other refl (whole-append (raw-text kind (l .at) (l .line .body)) (rawBody-rows l ls))))
 
   resolvedRows-rows : (k : Placed) (ls : List Placed) → Whole (resolvedRows (bodyRows kind k ls)) (bodyEvents resolvedText (bodyRows kind k ls))
   unfolding resolvedRows bodyRows bodyEvents
   resolvedRows-rows k [] = nothing
   resolvedRows-rows k (l ∷ ls) =
-      by-cases (λ z. Whole (resolvedRows z) (bodyEvents resolvedText z)) (blank kind (l .line .body)) (λ e. nothing)
+      by-cases (λ z. Whole (resolvedRows z) (bodyEvents resolvedText z)) (closes kind (l .line .body)) (λ e. nothing)
       (λ e. other refl (other refl (whole-append (resolved-text kind (l .at) (l .line .body)) (resolvedRows-rows l ls))))
 
   resolvedBody-rows : (e : Event) (k : Placed) (ls : List Placed) → Whole (resolvedBody e (bodyRows kind k ls)) (bodyEvents resolvedText (bodyRows kind k ls))
   unfolding bodyRows bodyEvents
   resolvedBody-rows e k [] = other refl nothing
   resolvedBody-rows e k (l ∷ ls) =
-      by-cases (λ z. Whole (resolvedBody e z) (bodyEvents resolvedText z)) (blank kind (l .line .body)) (λ f. other refl nothing)
+      by-cases (λ z. Whole (resolvedBody e z) (bodyEvents resolvedText z)) (closes kind (l .line .body)) (λ f. other refl nothing)
       (λ f.
       other refl
       (other refl (other refl (whole-append (resolved-text kind (l .at) (l .line .body)) (whole-end (resolvedRows-rows l ls) (other refl (other refl nothing)))))))

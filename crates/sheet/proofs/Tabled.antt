@@ -14,7 +14,7 @@ use Rattle.tokenizer.specs.Bytes.{kindOf}
 use Rattle.tokenizer.specs.Points.{past}
 use Rattle.tokenizer.specs.Events.{GfmTableRow, GfmTableDelimiterRow}
 use Rattle.tokenizer.specs.Slots.{slotsOf}
-use Rattle.tokenizer.specs.Lines.{Line, unindented, blank}
+use Rattle.tokenizer.specs.Lines.{Line, unindented}
 use Rattle.tokenizer.specs.Places.{Placed}
 use Rattle.gfm_table.specs.Heads.{permitted, loneDivider, solid, marked, headRefusal}
 use Rattle.gfm_table.specs.Rows.{rowPieces}
@@ -30,7 +30,7 @@ use Rattle.edit_map.proofs.RawRows.{text-row, delimiter-row}
 use Rattle.edit_map.proofs.Parse.{accepts-raw}
 use Rattle.edit_map.proofs.Resolving.{tables-of}
 use Rattle.sheet.proofs.Tests.{test, both-true}
-use Rattle.sheet.specs.Walk.{Found, lineEnd, bodyRows, tableOf, opens, found, heads, rows, tables, rawOf, resolvedOf}
+use Rattle.sheet.specs.Walk.{Found, closes, lineEnd, bodyRows, tableOf, opens, found, heads, rows, tables, rawOf, resolvedOf}
 
 -- the tables alone
 unfoldable tablesIn : List Found → List Table
@@ -49,10 +49,10 @@ resolved-in (f ∷ fs) = ap (λ (l : List Event). resolvedTable (f .table) ++ l)
 
 -- ## Rows
 
-not-blank : (p : Point) (u : List ℕ) → blank kindOf u ≡ false → IsRow GfmTableRow rowPiece (textRow kindOf p u)
-unfolding unindented
-not-blank p [] e = absurd (true≢false e)
-not-blank p (b ∷ u) e = text-row kindOf p (past p (b ∷ u)) b u
+is-row : (p : Point) (u : List ℕ) → closes kindOf u ≡ false → IsRow GfmTableRow rowPiece (textRow kindOf p u)
+unfolding closes unindented
+is-row p [] e = absurd (true≢false e)
+is-row p (b ∷ u) e = text-row kindOf p (past p (b ∷ u)) b u
 
 -- an empty line is no delimiter row
 none : (on : Bool) (l d : Line) → d .body ≡ [] → headRefusal kindOf on false l d ≡ 0 → ⊥
@@ -76,21 +76,21 @@ delimits on l d p e = go (d .body) refl
 rows-are : (l : Placed) (ls : List Placed) → AreRows (bodyRows kindOf l ls)
 unfolding bodyRows
 rows-are l [] = AreRows.none
-rows-are l (m ∷ ls) = go (blank kindOf (m .line .body)) refl (rows-are m ls)
+rows-are l (m ∷ ls) = go (closes kindOf (m .line .body)) refl (rows-are m ls)
   where
-    go : (t : Bool) → blank kindOf (m .line .body) ≡ t → AreRows (bodyRows kindOf m ls) → AreRows (cond t [] (record { before = lineEnd l; row = textRow kindOf (m .at) (m .line .body) } ∷ bodyRows kindOf m ls))
+    go : (t : Bool) → closes kindOf (m .line .body) ≡ t → AreRows (bodyRows kindOf m ls) → AreRows (cond t [] (record { before = lineEnd l; row = textRow kindOf (m .at) (m .line .body) } ∷ bodyRows kindOf m ls))
     go true e r = AreRows.none
-    go false e r = AreRows.row (record { enter = refl; leave = refl }) (not-blank (m .at) (m .line .body) e) r
+    go false e r = AreRows.row (record { enter = refl; leave = refl }) (is-row (m .at) (m .line .body) e) r
 
 -- ## Tables
 
 is-table : (on : Bool) (l d : Placed) (ls : List Placed) → opens kindOf on l d ≡ true → IsTable (tableOf kindOf l d ls)
 is-table on l d ls o =
-    let b = both-true (not (blank kindOf (l .line .body))) (eqb (headRefusal kindOf on false (l .line) (d .line)) 0) o in
+    let b = both-true (not (closes kindOf (l .line .body))) (eqb (headRefusal kindOf on false (l .line) (d .line)) 0) o in
     let r = eqb-true (headRefusal kindOf on false (l .line) (d .line)) 0 (b .1) in
     record {
       enter = refl;
-      head = not-blank (l .at) (l .line .body) (not-true (blank kindOf (l .line .body)) (b .0));
+      head = is-row (l .at) (l .line .body) (not-true (closes kindOf (l .line .body)) (b .0));
       between = record { enter = refl; leave = refl };
       delimiter = delimits on (l .line) (d .line) (d .at) r;
       leave = refl;
@@ -108,7 +108,7 @@ module _ (on : Bool) where
 
     rows-on : (ls : List Placed) → AreTables (tablesIn (rows kindOf on ls))
     rows-on [] = AreTables.none
-    rows-on (l ∷ ls) = test (blank kindOf (l .line .body)) (λ e. rw e (heads-are ls)) (λ e. rw e (rows-on ls))
+    rows-on (l ∷ ls) = test (closes kindOf (l .line .body)) (λ e. rw e (heads-are ls)) (λ e. rw e (rows-on ls))
 
   -- ## What resolving answers
 

@@ -12,13 +12,13 @@ use Rattle.tokenizer.specs.declared.event.Point.{Point}
 use Rattle.tokenizer.specs.declared.event.Event.{Event}
 use Rattle.tokenizer.specs.Points.{past}
 use Rattle.tokenizer.specs.Events.{Data, GfmTableCell, GfmTableCellDivider, GfmTableDelimiterRow, GfmTableDelimiterCell, leave}
-use Rattle.tokenizer.specs.Lines.{Line, blank}
+use Rattle.tokenizer.specs.Lines.{Line}
 use Rattle.tokenizer.specs.Places.{Placed, placed, endOf}
 use Rattle.gfm_table.specs.Rows.{Piece, Passed, passed, joins, onPieces, oddAfter, rowPieces, delimiterPieces, Row, allBoth, rawRow}
 use Rattle.gfm_table.specs.Raw.{textRow, delimiterRow}
 use Rattle.edit_map.specs.Tables.{BodyRow, Table, rawBody, rawTable, named, isText, isSolid, anySolid, anyText, before, cells, lastText, afterText, uptoText, rowInner, delimiterInner, cellEvents, resolvedRow, resolvedText, resolvedRows, lastExit, resolvedBody, resolvedTable}
 use Rattle.edit_map.specs.Align.{isExit}
-use Rattle.sheet.specs.Walk.{lineEnd, bodyRows}
+use Rattle.sheet.specs.Walk.{closes, lineEnd, bodyRows}
 use Rattle.sheet.specs.Demands.{isPiece, entersPiece, leftAt, holding, lastEnd}
 use Rattle.sheet.proofs.Lists.{All, empty, also}
 use Rattle.sheet.proofs.Tests.{test, by-cases}
@@ -288,7 +288,7 @@ bodies : (kind : ℕ → ℕ) (e : Event) (p : Point) (l : Line) (ls : List Line
 unfolding bodyRows placed lastExit
 bodies kind e p l [] h = stop
 bodies kind e p l (m ∷ ls) h =
-    by-cases (λ z. Bodies (e .index) (lastExit e z .index) z) (blank kind (m .body)) (λ f. stop)
+    by-cases (λ z. Bodies (e .index) (lastExit e z .index) z) (closes kind (m .body)) (λ f. stop)
     (λ f. row (rw h (lineEnd-tile (starting p l))) (textRow-links kind (onward p l) (m .body)) (bodies kind _ (onward p l) m ls refl))
 
 pub record TableTiles (t : Table) : Type 0 where

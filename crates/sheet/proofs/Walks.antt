@@ -10,12 +10,12 @@ use borrow.Author.Tests.{eqb-true, ltb-true, not-true}
 use Rattle.tokenizer.specs.declared.event.Point.{Point}
 use Rattle.tokenizer.specs.Points.{past, nextLine}
 use Rattle.tokenizer.specs.Events.{LineEnding, GfmTableHead}
-use Rattle.tokenizer.specs.Lines.{Line, blank}
+use Rattle.tokenizer.specs.Lines.{Line}
 use Rattle.tokenizer.specs.Places.{Placed, placed}
 use Rattle.gfm_table.specs.Rows.{Piece, passed, rowPieces, delimiterPieces}
 use Rattle.gfm_table.specs.Heads.{loneDivider, solid, permitted, isDelimiterRow, marked, allValues, values, headCells}
 use Rattle.gfm_table.specs.Raw.{rowAt, textRow}
-use Rattle.sheet.specs.Walk.{Found, opens, found, lineEnd, bodyRows, heads, rows}
+use Rattle.sheet.specs.Walk.{Found, closes, opens, found, lineEnd, bodyRows, heads, rows}
 use Rattle.sheet.specs.Demands.{Each, none, more}
 use Rattle.sheet.proofs.Tests.{both-true, either-false}
 use Rattle.sheet.proofs.Lists.{each-cond}
@@ -68,14 +68,14 @@ module _ (kind : ℕ → ℕ) (R : Point → Point → Type 0) (K : Kept R) wher
   bodyRows-alike h l [] = none
   bodyRows-alike h l (m ∷ ls) =
       let k = onward-kept h l in
-      each-cond {b = blank kind (m .body)} refl none (more (record { before = lineEnd-alike h l; row = textRow-alike k (m .body) }) (bodyRows-alike k m ls))
+      each-cond {b = closes kind (m .body)} refl none (more (record { before = lineEnd-alike h l; row = textRow-alike k (m .body) }) (bodyRows-alike k m ls))
 
   -- body rows alone, whatever lines stand before them
   pub rows-alike : (k m : Placed) {p q : Point} → R p q → (ls : List Line)
       → Each (λ b c. AlikeRow R (b .row) (c .row)) (bodyRows kind k (placed p ls)) (bodyRows kind m (placed q ls))
   unfolding bodyRows placed
   rows-alike k m h [] = none
-  rows-alike k m h (l ∷ ls) = each-cond {b = blank kind (l .body)} refl none (more (textRow-alike h (l .body)) (rows-alike _ _ (onward-kept h l) ls))
+  rows-alike k m h (l ∷ ls) = each-cond {b = closes kind (l .body)} refl none (more (textRow-alike h (l .body)) (rows-alike _ _ (onward-kept h l) ls))
 
   found-alike : (on : Bool) {p q : Point} → R p q → (l d : Line) (ls : List Line) → AlikeFound R (foundAt kind on p l d ls) (foundAt kind on q l d ls)
   found-alike on h l d ls =
@@ -104,13 +104,13 @@ module _ (kind : ℕ → ℕ) (R : Point → Point → Type 0) (K : Kept R) wher
 
     pub rest-alike : (on : Bool) {p q : Point} → R p q → (ls : List Line) → Each (AlikeFound R) (rows kind on (placed p ls)) (rows kind on (placed q ls))
     rest-alike on h [] = none
-    rest-alike on h (l ∷ ls) = let k = onward-kept h l in each-cond {b = blank kind (l .body)} refl (heads-alike on k ls) (rest-alike on k ls)
+    rest-alike on h (l ∷ ls) = let k = onward-kept h l in each-cond {b = closes kind (l .body)} refl (heads-alike on k ls) (rest-alike on k ls)
 
 -- ## Two lines that open a table
 
 -- what is known of them
 pub record Head (kind : ℕ → ℕ) (on : Bool) (l d : Line) : Type 0 where
-  pub filled : blank kind (l .body) ≡ false
+  pub filled : closes kind (l .body) ≡ false
   pub solid : loneDivider (solid (rowPieces kind false (l .body))) ≡ false
   pub marked : marked kind (d .body) ≡ true
   pub some : 0 < length (values kind (d .body))

@@ -16,7 +16,7 @@ use Rattle.tokenizer.specs.Places.{Placed, placedLines}
 use Rattle.gfm_table.specs.Heads.{headRefusal, headCells, values}
 use Rattle.edit_map.specs.Tables.{BodyRow, Table, rawTable, resolvedTable, lastExit}
 use Rattle.edit_map.specs.Align.{isEntry, isExit, tableAlignments}
-use Rattle.sheet.specs.Walk.{Found, found, opens, tables, rawOf, resolvedOf}
+use Rattle.sheet.specs.Walk.{Found, remark, closes, found, opens, tables, rawOf, resolvedOf}
 
 -- two lists as long as each other, their elements related one by one
 module _ {A B : Type 0} where
@@ -112,7 +112,7 @@ abbrev pub begins : List Event → ℕ
 begins [] = 0
 begins (e ∷ es) = e .index
 
--- ## A body line exchanged for another line that is not blank
+-- ## A body line exchanged for another line that is neither blank nor a remark
 
 -- one of these tables has a body row from offset a to offset b
 pub record BodyLine (fs : List Found) (a b : ℕ) : Type 0 where
@@ -150,7 +150,7 @@ pub record OtherRows (a old new : ℕ) (f g : Found) : Type 0 where
 abbrev pub Exchange : (ℕ → ℕ) → Type 0
 Exchange kind =
     (on : Bool) (x old new y : List ℕ) → BodyLine (tables kind on (x ++ (old ++ y))) (length x) (length x + length old)
-    → plain new ≡ true → blank kind new ≡ false
+    → plain new ≡ true → closes kind new ≡ false
     → Each (OtherRows (length x) (length old) (length new)) (tables kind on (x ++ (old ++ y))) (tables kind on (x ++ (new ++ y)))
 
 -- ## In each table: columns
@@ -231,32 +231,37 @@ Told kind = (on : Bool) (s : List ℕ) (f : Found) → List·Memᴰ f (tables ki
 
 -- ## The lines of a sheet
 
--- none of these lines is blank
-unfoldable pub noneBlank : (ℕ → ℕ) → List Placed → Bool
-noneBlank kind [] = true
-noneBlank kind (l ∷ ls) = not (blank kind (l .line .body)) && noneBlank kind ls
+-- none of these lines is blank or a remark
+unfoldable pub noneCloses : (ℕ → ℕ) → List Placed → Bool
+noneCloses kind [] = true
+noneCloses kind (l ∷ ls) = not (closes kind (l .line .body)) && noneCloses kind ls
 
--- there is no line, or the first one is blank
-abbrev pub blankFirst : (ℕ → ℕ) → List Placed → Bool
-blankFirst kind [] = true
-blankFirst kind (l ∷ ls) = blank kind (l .line .body)
+-- there is no line, or the first one is blank or a remark
+abbrev pub closesFirst : (ℕ → ℕ) → List Placed → Bool
+closesFirst kind [] = true
+closesFirst kind (l ∷ ls) = closes kind (l .line .body)
 
 -- a head is refused at the line l before the lines ls: none follows it, or one of questions 3 to 7 is answered no
 abbrev pub refused : (ℕ → ℕ) → Bool → Placed → List Placed → Bool
 refused kind on l [] = true
 refused kind on l (d ∷ ls) = not (eqb (headRefusal kind on false (l .line) (d .line)) 0)
 
--- some lines and their tables: each line is blank, or prose, or a head line, a delimiter line or a body row of one table
+-- some lines and their tables: each line is blank, or prose, as a remark or where a head is refused, or a head line, a delimiter line or a body row of one table
 pub data Read (kind : ℕ → ℕ) (on : Bool) : List Placed → List Found → Type 0 where
   end : Read kind on [] []
   gap : {l : Placed} {ls : List Placed} {fs : List Found} → blank kind (l .line .body) ≡ true → Read kind on ls fs → Read kind on (l ∷ ls) fs
-  prose : {l : Placed} {ls : List Placed} {fs : List Found} → blank kind (l .line .body) ≡ false → refused kind on l ls ≡ true → Read kind on ls fs → Read kind on (l ∷ ls) fs
-  table : (l d : Placed) (bs ls : List Placed) {fs : List Found} → opens kind on l d ≡ true → noneBlank kind bs ≡ true → blankFirst kind ls ≡ true → Read kind on ls fs
+  quoted : {l : Placed} {ls : List Placed} {fs : List Found} → remark kind (l .line .body) ≡ true → Read kind on ls fs → Read kind on (l ∷ ls) fs
+  prose : {l : Placed} {ls : List Placed} {fs : List Found} → closes kind (l .line .body) ≡ false → refused kind on l ls ≡ true → Read kind on ls fs → Read kind on (l ∷ ls) fs
+  table : (l d : Placed) (bs ls : List Placed) {fs : List Found} → opens kind on l d ≡ true → noneCloses kind bs ≡ true → closesFirst kind ls ≡ true → Read kind on ls fs
       → Read kind on (l ∷ d ∷ bs ++ ls) (found kind on l d bs ∷ fs)
 
 -- the tables of a sheet are those, and only those, that are read so
 abbrev pub Walked : (ℕ → ℕ) → Type 0
 Walked kind = (on : Bool) (s : List ℕ) (fs : List Found) → (fs ≡ tables kind on s) ↔ Read kind on (placedLines s) fs
+
+-- where `>` is of no kind of its own, a remark is no delimiter line either: no line of a table is one
+abbrev pub Unquoted : (ℕ → ℕ) → Type 0
+Unquoted kind = kind 62 ≡ 0 → (on : Bool) (l d : Placed) → opens kind on l d ≡ true → remark kind (d .line .body) ≡ false
 
 -- ## The whole demand
 
@@ -268,3 +273,4 @@ pub record Demand (kind : ℕ → ℕ) : Type 0 where
   pub starts : Starts
   pub told : Told kind
   pub walked : Walked kind
+  pub unquoted : Unquoted kind

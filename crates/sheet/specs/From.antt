@@ -14,7 +14,7 @@ use Rattle.gfm_table.specs.Rows.{rowPieces}
 use Rattle.gfm_table.specs.Heads.{solid, loneDivider, headCells, permitted, isDelimiterRow, values}
 use Rattle.gfm_table.specs.Places.{pointIn}
 use Rattle.sheet.specs.declared.seek.Opening.{Opening}
-use Rattle.sheet.specs.Walk.{found, heads, rows}
+use Rattle.sheet.specs.Walk.{closes, found, heads, rows}
 
 -- the first point of a line
 pub record AtLine (s : List ℕ) (p : Point) : Type 0 where
@@ -34,7 +34,9 @@ columnsIf s i n =
 -- the columns of the head whose line starts at the place i and whose delimiter row at d, 0 where they are no head
 abbrev pub columnsOf : List ℕ → Bool → ℕ → ℕ → ℕ
 columnsOf s on i d =
-    cond (isDelimiterRow kindOf on (lineBody (drop d s)) && permitted kindOf on (lineBody (drop i s))) (columnsIf s i (length (values kindOf (lineBody (drop d s))))) 0
+    let u = lineBody (drop i s) in
+    let v = lineBody (drop d s) in
+    cond (isDelimiterRow kindOf on v && (permitted kindOf on u && not (closes kindOf u))) (columnsIf s i (length (values kindOf v))) 0
 
 -- where a head's line starts
 abbrev pub openingPoint : Opening → Point

@@ -1,11 +1,12 @@
 -- The walk over a sheet's lines, over a table of kinds.
 use Prim.Native.Nat.{ℕ}
 use mathlib.Core.List.{List, [], _∷_, _++_}
-use mathlib.Core.Bool.{Bool, false, cond, _&&_, not}
-use lib.Dec.{eqb}
+use mathlib.Core.Bool.{Bool, false, cond, _&&_, _||_, not}
+use lib.Dec.{eqb, leb}
 use Rattle.tokenizer.specs.declared.event.Event.{Event}
 use Rattle.tokenizer.specs.Events.{GfmTableHead, enter, leave}
-use Rattle.tokenizer.specs.Lines.{blank}
+use Rattle.tokenizer.specs.Points.{columnPast}
+use Rattle.tokenizer.specs.Lines.{indent, unindented, blank}
 use Rattle.tokenizer.specs.Places.{Placed, endOf, placedLines}
 use Rattle.gfm_table.specs.Rows.{Passed}
 use Rattle.gfm_table.specs.Heads.{headRefusal, values, alignments}
@@ -21,11 +22,24 @@ pub record Found : Type 0 where
 abbrev pub lineEnd : Placed → Passed
 lineEnd l = lineEndAt (endOf l) (l .line .end)
 
+-- whether `>` stands in front
+abbrev pub startsQuote : List ℕ → Bool
+startsQuote [] = false
+startsQuote (b ∷ u) = eqb b 62
+
 module _ (kind : ℕ → ℕ) where
-  -- the rows of the lines up to a blank one, each with the line end before it
+  -- a quoted remark: at most 3 units of indent, then `>`
+  abbrev pub remark : List ℕ → Bool
+  remark u = leb (columnPast 1 (indent kind u)) 4 && startsQuote (unindented kind u)
+
+  -- a blank line or a remark: it ends a table, and no head is tried at it
+  unfoldable pub closes : List ℕ → Bool
+  closes u = blank kind u || remark u
+
+  -- the rows of the lines up to a blank one or a remark, each with the line end before it
   unfoldable pub bodyRows : Placed → List Placed → List BodyRow
   bodyRows l [] = []
-  bodyRows l (m ∷ ms) = cond (blank kind (m .line .body)) [] (record { before = lineEnd l; row = textRow kind (m .at) (m .line .body) } ∷ bodyRows m ms)
+  bodyRows l (m ∷ ms) = cond (closes (m .line .body)) [] (record { before = lineEnd l; row = textRow kind (m .at) (m .line .body) } ∷ bodyRows m ms)
 
   -- the table with the head line l and the delimiter line d, before other lines
   abbrev pub tableOf : Placed → Placed → List Placed → Table
@@ -40,9 +54,9 @@ module _ (kind : ℕ → ℕ) where
       }
 
   module _ (on : Bool) where
-    -- whether a line and the next are a head: it is not blank, and questions 3 to 7 are answered yes
+    -- whether a line and the next are a head: it is neither blank nor a remark, and questions 3 to 7 are answered yes
     abbrev pub opens : Placed → Placed → Bool
-    opens l d = not (blank kind (l .line .body)) && eqb (headRefusal kind on false (l .line) (d .line)) 0
+    opens l d = not (closes (l .line .body)) && eqb (headRefusal kind on false (l .line) (d .line)) 0
 
     abbrev pub found : Placed → Placed → List Placed → Found
     found l d ls = record { table = tableOf l d ls; aligned = alignments kind (values kind (d .line .body)) }
@@ -54,10 +68,10 @@ module _ (kind : ℕ → ℕ) where
       heads (l ∷ []) = []
       heads (l ∷ d ∷ ls) = cond (opens l d) (found l d ls ∷ rows ls) (heads (d ∷ ls))
 
-      -- the tables behind a table's body, which ends at a blank line
+      -- the tables behind a table's body, which ends at a blank line or a remark
       pub rows : List Placed → List Found
       rows [] = []
-      rows (l ∷ ls) = cond (blank kind (l .line .body)) (heads ls) (rows ls)
+      rows (l ∷ ls) = cond (closes (l .line .body)) (heads ls) (rows ls)
 
     -- the tables of a sheet
     abbrev pub tables : List ℕ → List Found

@@ -1,13 +1,18 @@
 // The next head of a sheet, in plain numbers.
 use gfm_table::delimiter::permits_at;
 use gfm_table::pieces::head_row;
+use gfm_table::pieces::spaces_end;
 use gfm_table::values::values_at;
 use tokenizer::lines::line_end;
 use tokenizer::lines::line_stop;
+use tokenizer::moves::kind_at;
 ghost use mathlib.Core.Path.{_≡_};
 ghost use Prim.Native.Nat.{_≤_};
-ghost use lib.ListN.{length};
+ghost use lib.ListN.{length, drop};
+ghost use Rattle.tokenizer.specs.Bytes.{kindOf};
+ghost use Rattle.tokenizer.specs.Lines.{lineBody};
 ghost use Rattle.gfm_table.specs.Places.{pointIn};
+ghost use Rattle.sheet.specs.Walk.{closes};
 ghost use Rattle.sheet.specs.From.{AtLine, columnsIf, columnsOf, Finds};
 
 // Whether there is a head, where its line starts, where its delimiter row does, and how many columns it has.
@@ -28,6 +33,21 @@ impl Opening {
         delimiter: 0,
         columns: 0,
     };
+}
+
+// Whether the line at a place ends a table: it is blank, or a remark.
+pub fn closes_at(s: &[u8], at: usize) -> bool
+    requires { ⌜ (length (now s) ≤ 65536) × (at ≤ length (now s)) ⌝ }
+    ensures { λ r. ⌜ r ≡ closes kindOf (lineBody (drop at (now (s .entry)))) ⌝ }
+{
+    let e = spaces_end(s, at);
+    if kind_at(s, e) == 2 {
+        return true;
+    }
+    if s[e] == 62 {
+        return permits_at(s, at, true);
+    }
+    false
 }
 
 // The number n, where the line at a place has n cells and more than a lone divider; otherwise 0.
@@ -53,7 +73,14 @@ pub fn columns_at(s: &[u8], at: usize, d: usize, on: bool) -> u32
     }
     if permits_at(s, d, on) {
         if permits_at(s, at, on) {
-            return columns_if(s, at, n);
+            let c = columns_if(s, at, n);
+            if c == 0 {
+                return 0;
+            }
+            if closes_at(s, at) {
+                return 0;
+            }
+            return c;
         }
     }
     0

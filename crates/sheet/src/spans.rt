@@ -1,13 +1,10 @@
 // A sheet's tables by places: the line where each starts, and where its rows end.
+use crate::seek::closes_at;
 use crate::seek::next_head;
-use gfm_table::pieces::spaces_end;
 use tokenizer::lines::line_end;
 use tokenizer::lines::line_stop;
-use tokenizer::moves::kind_at;
 ghost use mathlib.Core.Path.{_≡_};
-ghost use lib.ListN.{drop};
 ghost use Rattle.tokenizer.specs.Bytes.{kindOf};
-ghost use Rattle.tokenizer.specs.Lines.{lineBody, blank};
 ghost use Rattle.tokenizer.specs.Places.{linesFrom};
 ghost use Rattle.gfm_table.specs.Places.{pointIn};
 ghost use Rattle.sheet.specs.Walk.{heads};
@@ -20,7 +17,7 @@ pub struct Where {
     pub at: u32,
 }
 
-// Where the last row of a table ends, and the line where the walk goes on: the blank line behind it, or an empty one at the sheet's end.
+// Where the last row of a table ends, and the line where the walk goes on: the blank line or the remark behind it, or an empty one at the sheet's end.
 pub struct Tail {
     pub stop: u32,
     pub next: Where,
@@ -50,13 +47,6 @@ impl Span {
     };
 }
 
-// Whether the line at a place is blank.
-pub fn blank_at(s: &[u8], at: usize) -> bool
-    ensures { λ r. ⌜ r ≡ blank kindOf (lineBody (drop at (now (s .entry)))) ⌝ }
-{
-    kind_at(s, spaces_end(s, at)) == 2
-}
-
 // The end of the body rows after a line of a table.
 pub fn body_end(s: &[u8], line: u32, at: u32) -> Tail
     requires { ⌜ AtLine (now s) (pointIn line at 1) ⌝ }
@@ -76,7 +66,7 @@ pub fn body_end(s: &[u8], line: u32, at: u32) -> Tail
         }
         let t = e + n;
         l += 1;
-        if blank_at(s, t) {
+        if closes_at(s, t) {
             return Tail {
                 stop: e as u32,
                 next: Where {

@@ -4,7 +4,7 @@ use mathlib.Core.Path.{ap, sym, _∙_}
 use borrow.Author.Needs.{needs}
 use denote.Ref.{now}
 use Rattle.sheet.specs.From.{columnsIf}
-use Rattle.sheet.proofs.From.{columns-zero, columns-row, columns-head, columns-both}
+use Rattle.sheet.proofs.From.{columns-zero, columns-row, columns-head, columns-closed, columns-both, columns-other}
 use Rattle.sheet.proofs.seek.columns_at.Statement.{statement}
 use Rattle.sheet.proofs.seek.columns_at.Tie as tie
 
@@ -27,23 +27,44 @@ columns-if-requires c κs = search needs
 
 returns-2 : tie.Need-returns-2
 returns-2 c =
-    let d = c .before .before .before in
+    let w = c .before in
+    let d = w .before .before .before in
+    let e = d .before in
+    let v = e .before .before in
+    let a = v .before .before .args in
+    let n = v .values-at .ensures in
+    columns-other (now (a .s)) (a .on) (a .at) (a .d) (λ z. e .before .if1 .left (n ∙ z)) (sym (e .permits-at .ensures) ∙ d .if2 .taken) (sym (w .before .before .permits-at2 .ensures) ∙ w .before .if3 .taken)
+    (ap (columnsIf (now (a .s)) (a .at)) (sym n) ∙ sym (w .columns-if .ensures) ∙ c .if4 .taken)
+
+closes-at-requires : tie.Need-closes-at-requires
+closes-at-requires c κs = search needs
+
+returns-3 : tie.Need-returns-3
+returns-3 c =
+    let a = c .before .before .before .before .before .before .before .before .before .before .before .args in
+    columns-closed (now (a .s)) (a .on) (a .at) (a .d) (sym (c .before .closes-at .ensures) ∙ c .if5 .taken)
+
+returns-4 : tie.Need-returns-4
+returns-4 c =
+    let w = c .before .before .before in
+    let d = w .before .before .before in
     let e = d .before in
     let v = e .before .before in
     let a = v .before .before .args in
     let s = now (a .s) in
     let n = v .values-at .ensures in
-    c .columns-if .ensures
+    w .columns-if .ensures
     ∙ ap (columnsIf s (a .at)) n
-    ∙ columns-both s (a .on) (a .at) (a .d) (λ z. e .before .if1 .left (n ∙ z)) (sym (e .permits-at .ensures) ∙ d .if2 .taken) (sym (c .before .before .permits-at2 .ensures) ∙ c .before .if3 .taken)
+    ∙ columns-both s (a .on) (a .at) (a .d) (λ z. e .before .if1 .left (n ∙ z)) (sym (e .permits-at .ensures) ∙ d .if2 .taken) (sym (w .before .before .permits-at2 .ensures) ∙ w .before .if3 .taken)
+    (sym (c .before .closes-at .ensures) ∙ c .if5 .left)
 
-returns-3 : tie.Need-returns-3
-returns-3 c =
+returns-5 : tie.Need-returns-5
+returns-5 c =
     let a = c .before .before .before .before .before .before .before .args in
     columns-head (now (a .s)) (a .on) (a .at) (a .d) (sym (c .before .permits-at2 .ensures) ∙ c .if3 .left)
 
-returns-4 : tie.Need-returns-4
-returns-4 c =
+returns-6 : tie.Need-returns-6
+returns-6 c =
     let a = c .before .before .before .before .before .args in
     columns-row (now (a .s)) (a .on) (a .at) (a .d) (sym (c .before .permits-at .ensures) ∙ c .if2 .left)
 
@@ -57,5 +78,8 @@ columns-at-spec =
     permits-at-requires-2
     columns-if-requires
     returns-2
+    closes-at-requires
     returns-3
-    returns-4)
+    returns-4
+    returns-5
+    returns-6)

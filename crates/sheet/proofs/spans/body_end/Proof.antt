@@ -8,19 +8,18 @@ use borrow.Author.Needs.{needs}
 use lib.ListN.{length}
 use denote.Ref.{now}
 use Rattle.tokenizer.specs.declared.event.Point.{Point}
-use Rattle.tokenizer.specs.Lines.{blank}
 use Rattle.tokenizer.specs.Places.{linesFrom, linesPast}
 use Rattle.tokenizer.specs.Bytes.{kindOf}
 use Rattle.tokenizer.specs.Moves.{restOf, lineAt, after}
 use Rattle.tokenizer.proofs.Ends.{body-inside}
 use Rattle.gfm_table.specs.Places.{pointIn}
-use Rattle.sheet.specs.Walk.{heads, rows}
+use Rattle.sheet.specs.Walk.{closes, heads, rows}
 use Rattle.sheet.specs.From.{AtLine}
 use Rattle.sheet.specs.Spans.{startOf, lastPoint}
 use Rattle.sheet.proofs.From.{read-end, read-next, read-stop, read-line, heads-last}
 use Rattle.sheet.proofs.Stops.{stop-end}
-use Rattle.sheet.proofs.Bodies.{rows-last, rows-blank, rows-row}
-use Rattle.sheet.proofs.LastRow.{last-end, last-blank, last-row}
+use Rattle.sheet.proofs.Bodies.{rows-last, rows-closed, rows-row}
+use Rattle.sheet.proofs.LastRow.{last-end, last-closed, last-row}
 use Rattle.sheet.proofs.spans.body_end.Statement.{statement}
 use Rattle.sheet.proofs.spans.body_end.Tie as tie
 
@@ -87,16 +86,16 @@ add-t c = let h = onward c .inside in omega (arith, h .within, h .short)
 add-l : tie.Need-add-l Inv-loop μ-loop
 add-l c = let h = onward c .inside in omega (arith, h .lined, h .within, h .short)
 
-blank-at-requires : tie.Need-blank-at-requires Inv-loop μ-loop
-blank-at-requires c κs = search needs
+closes-at-requires : tie.Need-closes-at-requires Inv-loop μ-loop
+closes-at-requires c κs = let h = onward c .inside in (h .short, h .within)
 
--- whether it is blank
-tested : (c : tie.After-blank-at Inv-loop μ-loop) → let r = c .before .before in let l = r .before .before .loop in let s = now (r .before .before .before .before .args .s) in
-    blank kindOf (restOf s (after s (pointIn (l .l) (l .i) 1))) ≡ c .blank-at .result
+-- whether it ends the table
+tested : (c : tie.After-closes-at Inv-loop μ-loop) → let r = c .before .before in let l = r .before .before .loop in let s = now (r .before .before .before .before .args .s) in
+    closes kindOf (restOf s (after s (pointIn (l .l) (l .i) 1))) ≡ c .closes-at .result
 tested c =
     let r = c .before .before in
     let s = now (r .before .before .before .before .args .s) in
-    ap (λ (p : Point). blank kindOf (restOf s p)) (sym (next r)) ∙ sym (c .blank-at .ensures)
+    ap (λ (p : Point). closes kindOf (restOf s p)) (sym (next r)) ∙ sym (c .closes-at .ensures)
 
 cast-t14 : tie.Need-cast-t14 Inv-loop μ-loop
 cast-t14 c = let h = onward (c .before .before) .inside in omega (arith, h .within, h .short)
@@ -114,9 +113,9 @@ returns-2 c =
     let z : lineAt s q .end ≡ 0 → ⊥ = λ w. e .if1 .left (ending r ∙ w) in
     let b = tested (c .before) ∙ c .if2 .taken in
     record {
-      stop = r .before .line-stop .ensures ∙ ap (λ (x : Point). x .index) (sym (last-blank s q z b) ∙ l .inv .1);
+      stop = r .before .line-stop .ensures ∙ ap (λ (x : Point). x .index) (sym (last-closed s q z b) ∙ l .inv .1);
       at = onward e;
-      tables = λ on. sym (l .inv .2 on) ∙ rows-blank s q z b on ∙ ap (λ (p : Point). heads kindOf on (linesFrom s p)) (sym (next r));
+      tables = λ on. sym (l .inv .2 on) ∙ rows-closed s q z b on ∙ ap (λ (p : Point). heads kindOf on (linesFrom s p)) (sym (next r));
     }
 
 loop-less : tie.Need-loop-less Inv-loop μ-loop
@@ -150,7 +149,7 @@ body-end-spec =
     returns
     add-t
     add-l
-    blank-at-requires
+    closes-at-requires
     cast-t14
     cast-t15
     returns-2

@@ -1,0 +1,54 @@
+-- `seek::closes_at` meets its contract: whitespace leads to the end of the line, or at most 3 units of it to `>`.
+-- Assumes nothing.
+use Prim.Native.Nat.{_+_}
+use mathlib.Core.Path.{_≡_, sym, _∙_}
+use mathlib.Core.List.{_∷_}
+use borrow.Author.Needs.{needs}
+use borrow.Author.Tests.{eq-eqb}
+use lib.ListN.{drop, getD}
+use denote.Ref.{now}
+use Rattle.tokenizer.specs.Bytes.{kindOf}
+use Rattle.tokenizer.specs.Lines.{lineBody, unindented}
+use Rattle.tokenizer.proofs.Ends.{blank-ahead}
+use Rattle.tokenizer.proofs.Ahead.{Front, goes}
+use Rattle.gfm_table.specs.Places.{pointIn}
+use Rattle.sheet.proofs.Closing.{blank-closes, closes-quote, closes-other, unindented-at}
+use Rattle.sheet.proofs.seek.closes_at.Statement.{statement}
+use Rattle.sheet.proofs.seek.closes_at.Tie as tie
+
+spaces-end-requires : tie.Need-spaces-end-requires
+spaces-end-requires c κs = search needs
+
+kind-at-requires : tie.Need-kind-at-requires
+kind-at-requires c κs = search needs
+
+returns : tie.Need-returns
+returns c =
+    let a = c .before .before .before .before .args in
+    let s = now (a .s) in
+    let k = rw (c .before .before .spaces-end .ensures) at (c .before .kind-at .ensures) in
+    sym (blank-closes kindOf (lineBody (drop (a .at) s)) (blank-ahead s (pointIn 0 (a .at) 1) ∙ eq-eqb _ 2 (sym k ∙ c .if1 .taken)))
+
+-- the byte behind the whitespace is of the line
+front : (c : tie.Else1) → Front (now (c .before .before .before .before .args .s)) (c .before .before .spaces-end .result) (c .before .kind-at .result)
+front c = goes _ _ _ (c .before .kind-at .ensures) (c .if1 .left)
+
+shared-slice-read-if2 : tie.Need-shared-slice-read-if2
+shared-slice-read-if2 c = let f = front (c .before) in search needs
+
+permits-at-requires : tie.Need-permits-at-requires
+permits-at-requires c κs = search needs
+
+-- it stands behind the indent
+behind : (c : tie.Else1) → let a = c .before .before .before .before .args in let e = c .before .before .spaces-end .result in
+    unindented kindOf (lineBody (drop (a .at) (now (a .s)))) ≡ getD (now (a .s)) e 0 ∷ lineBody (drop (e + 1) (now (a .s)))
+behind c = let a = c .before .before .before .before .args in unindented-at (now (a .s)) (a .at) _ _ (c .before .before .spaces-end .ensures) (front c)
+
+returns-2 : tie.Need-returns-2
+returns-2 c = c .permits-at .ensures ∙ sym (closes-quote kindOf _ _ _ (behind (c .before .before .before)) (c .before .if2 .taken))
+
+returns-3 : tie.Need-returns-3
+returns-3 c = sym (closes-other kindOf _ _ _ (behind (c .before .before)) (c .if2 .left))
+
+pub closes-at-spec : {M : Type 1} → statement M
+closes-at-spec = tie.close (tie.spec spaces-end-requires kind-at-requires returns shared-slice-read-if2 permits-at-requires returns-2 returns-3)
