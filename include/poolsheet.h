@@ -137,6 +137,9 @@ static inline const char *poolsheet_text(uint8_t number) {
 /*
  * A whole sheet: the raw events, the result events and the alignments of all its tables, in sheet order.
  *
+ * A table ends at a blank line, at a remark, or with the sheet. A remark is a line with at most 3 columns of indent and then `>`; it is
+ * no part of any table, whatever `code_indented` says.
+ *
  * Reads `sheet`. With `code_indented`, a line that is indented by 4 columns or more is no head line.
  * Writes `raw`, `results`, `alignments`, one alignment for each column of each table, and `counts`: tables, raw events, result
  * events, alignments.

@@ -105,7 +105,7 @@ pub fn sheet(sheet: &[u8], code_indented: bool, slots: &SheetSlots) -> Result<Sh
     Ok(Sheet { tables: tables.len(), raw, results, alignments })
 }
 
-/// The walk of 01: the raw events of each table, in sheet order.
+/// The walk of 01, with request U3: the raw events of each table, in sheet order.
 pub fn raw_tables(sheet: &[u8], code_indented: bool) -> Vec<Vec<Event>> {
     Walk::new(sheet).raw_tables(code_indented)
 }
@@ -114,32 +114,32 @@ pub fn raw_tables(sheet: &[u8], code_indented: bool) -> Vec<Vec<Event>> {
 pub struct Walk<'a> {
     sheet: &'a [u8],
     lines: Vec<Line>,
-    /// For each line, the place of the first blank line from there on, or the number of lines.
-    blanks: Vec<usize>,
+    /// For each line, the place of the first line from there on that is blank or a remark, or the number of lines.
+    closing: Vec<usize>,
 }
 
 impl<'a> Walk<'a> {
     pub fn new(sheet: &'a [u8]) -> Walk<'a> {
         let lines = lines(sheet);
-        let blanks = next_blanks(sheet, &lines);
-        Walk { sheet, lines, blanks }
+        let closing = next_closing(sheet, &lines);
+        Walk { sheet, lines, closing }
     }
 
     /// Whether a head is tried at all.
     pub fn has_text(&self) -> bool {
-        self.blanks.iter().enumerate().any(|(place, &blank)| blank > place)
+        self.closing.iter().enumerate().any(|(place, &closing)| closing > place)
     }
 
-    /// The raw events of each table: a head is tried at each line that is not blank and not a table's.
+    /// The raw events of each table: a head is tried at each line that is neither blank, nor a remark, nor a table's.
     pub fn raw_tables(&self, code_indented: bool) -> Vec<Vec<Event>> {
         let mut tables = vec![];
         let mut place = 0;
         while place < self.lines.len() {
-            // The rows of a table whose head is here: the lines behind the delimiter row up to a blank one.
-            let rows = self.blanks.get(place + 2).map_or(0, |blank| blank - (place + 2));
+            // The rows of a table whose head is here: the lines behind the delimiter row up to a blank one or a remark.
+            let rows = self.closing.get(place + 2).map_or(0, |closing| closing - (place + 2));
             let try_head =
                 || drive::table(self.sheet, &self.lines[place..], code_indented, Flags::default(), rows).ok();
-            if let Some(driven) = (self.blanks[place] > place).then(try_head).flatten() {
+            if let Some(driven) = (self.closing[place] > place).then(try_head).flatten() {
                 tables.push(driven.events);
                 place += 2 + rows;
             } else {
@@ -150,17 +150,17 @@ impl<'a> Walk<'a> {
     }
 }
 
-/// For each line, the place of the first blank line from there on, or the number of lines.
-fn next_blanks(sheet: &[u8], lines: &[Line]) -> Vec<usize> {
-    let mut blanks = vec![lines.len(); lines.len()];
+/// For each line, the place of the first line from there on that is blank or a remark, or the number of lines.
+fn next_closing(sheet: &[u8], lines: &[Line]) -> Vec<usize> {
+    let mut closing = vec![lines.len(); lines.len()];
     let mut next = lines.len();
     for place in (0..lines.len()).rev() {
-        if lines[place].is_blank(sheet) {
+        if lines[place].is_blank(sheet) || lines[place].is_remark(sheet) {
             next = place;
         }
-        blanks[place] = next;
+        closing[place] = next;
     }
-    blanks
+    closing
 }
 
 /// Whether the crate resolves all tables of a sheet in one list as it does each alone.

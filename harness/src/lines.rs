@@ -16,6 +16,19 @@ impl Line {
         sheet[self.start..self.end].iter().all(|byte| matches!(byte, b' ' | b'\t'))
     }
 
+    /// A quoted remark (request U3): at most 3 units of indent, a tab running to the next multiple of 4, then `>`.
+    pub fn is_remark(&self, sheet: &[u8]) -> bool {
+        let mut units = 0;
+        for byte in &sheet[self.start..self.end] {
+            match byte {
+                b' ' => units += 1,
+                b'\t' => units = (units / 4 + 1) * 4,
+                _ => return *byte == b'>' && units <= 3,
+            }
+        }
+        false
+    }
+
     /// Whether a line end closes it.
     pub fn is_closed(&self) -> bool {
         self.next > self.end

@@ -25,7 +25,7 @@ pub const TYPICAL: [Shape; 4] = [
 ];
 
 /// The worst shapes.
-pub const WORST: [Shape; 27] = [
+pub const WORST: [Shape; 30] = [
     Shape { name: "pipes", about: "`|` only", make: |size| fill("|", size) },
     Shape { name: "cells", about: "`a|` over and over, one line", make: |size| fill("a|", size) },
     Shape { name: "word", about: "`a` only", make: |size| fill("a", size) },
@@ -55,6 +55,17 @@ pub const WORST: [Shape; 27] = [
     Shape { name: "wide-rows", about: "one table of very many columns and one row as wide", make: wide_rows },
     Shape { name: "byte-rows", about: "one table with rows of one byte", make: |size| headed("a\n:-\n", "a\n", size) },
     Shape { name: "byte-rows-crlf", about: "the same with CRLF", make: |size| headed("a\r\n:-\r\n", "a\r\n", size) },
+    Shape {
+        name: "remarks",
+        about: "the smallest tables, a remark between them",
+        make: |size| fill("a\n:-\n>\n", size),
+    },
+    Shape {
+        name: "quote-rows",
+        about: "one table with rows `>c` behind 4 spaces: no remarks",
+        make: |size| headed("a\n:-\n", "    >c\n", size),
+    },
+    Shape { name: "quote-rows-tab", about: "the same behind a tab", make: |size| headed("a\n:-\n", "\t>c\n", size) },
     Shape { name: "pipe-row", about: "one table with one row of `|`", make: |size| headed("a\n:-\n", "|", size) },
     Shape { name: "pipe-rows", about: "one table with rows `|`", make: |size| headed("a\n:-\n", "|\n", size) },
     Shape { name: "cell-row", about: "one table with one row of `a|`", make: |size| headed("a\n:-\n", "a|", size) },

@@ -6,6 +6,7 @@ use crate::kept::random::Random;
 use crate::kept::{self, sheet_cases};
 use crate::print;
 use crate::protocol::answer;
+use crate::record;
 use std::path::Path;
 
 const MANY: SheetSlots = SheetSlots { raw: 1024, results: 1024, alignments: 1024 };
@@ -82,6 +83,33 @@ fn sheet_refusals_in_order() {
     assert_eq!(asked("sheet 1 14 24 0", text), "14 0 0 0 0 | +14 | +24 | +0");
     assert_eq!(asked("sheet 1 0 0 0", &"a".repeat(65_537)), "1 0 0 0 0 | +0 | +0 | +0");
     assert_eq!(asked("sheet 1 0 0 0", &"a".repeat(65_536)), "0 0 0 0 0 | +0 | +0 | +0");
+}
+
+/// The numbers of tables and of body rows: of the rows entered in the raw events, those that are no head rows.
+fn shape_of(sheet: &[u8], code_indented: bool) -> (usize, usize) {
+    let read = calls::sheet(sheet, code_indented, &MANY).ok().unwrap();
+    let rows = read.raw.iter().filter(|record| record.enters(record::ROW)).count();
+    (read.tables, rows - read.tables)
+}
+
+#[test]
+fn remarks_close_tables() {
+    for line_end in sheet_cases::REMARK_LINE_ENDS {
+        for (place, closed) in [(1, 2), (0, 0), (0, 0), (1, 0), (1, 1), (1, 2), (2, 1)].iter().enumerate() {
+            for indent in ["", " ", "  ", "   "] {
+                let sheet = sheet_cases::with_remark(place, indent, line_end);
+                assert_eq!(shape_of(&sheet, true), *closed, "{place} {indent:?} {line_end:?}");
+                assert_eq!(shape_of(&sheet, false), *closed, "{place} {indent:?} {line_end:?}");
+            }
+        }
+        // With 4 units of indent it is a line like any other.
+        for indent in ["    ", "\t", " \t", "  \t", "   \t"] {
+            let first = sheet_cases::with_remark(3, indent, line_end);
+            assert_eq!((shape_of(&first, true), shape_of(&first, false)), ((1, 3), (1, 3)), "{indent:?}");
+            let head = sheet_cases::with_remark(1, indent, line_end);
+            assert_eq!((shape_of(&head, true), shape_of(&head, false)), ((0, 0), (1, 2)), "{indent:?}");
+        }
+    }
 }
 
 #[test]

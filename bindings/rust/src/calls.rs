@@ -124,6 +124,9 @@ pub fn align(list: &[Event], index: usize, alignments: &mut [u8]) -> Result<usiz
 
 /// A whole sheet: the raw events, the result events and the alignments of all its tables, in sheet order.
 ///
+/// A table ends at a blank line, at a remark, or with the sheet. A remark is a line with at most 3 columns of indent and then `>`; it is
+/// no part of any table, whatever `code_indented` says.
+///
 /// [`raw_slots`](crate::raw_slots), [`result_slots`](crate::result_slots) and [`alignment_slots`](crate::alignment_slots) suffice.
 pub fn sheet(
     sheet: &[u8],

@@ -35,7 +35,8 @@ pub struct Cell<'s> {
     range: Option<Range<usize>>,
 }
 
-/// Reads a whole sheet. With `code_indented`, a line that is indented by 4 columns or more is no head line.
+/// Reads a whole sheet. With `code_indented`, a line that is indented by 4 columns or more is no head line. A table ends at a blank line or
+/// at a remark, a line with at most 3 columns of indent and then `>`.
 ///
 /// The only refusal is [`Refusal::SheetTooLong`]: slots that usually suffice are lent first, and where they do not, slots that always do.
 pub fn read_sheet(sheet: &[u8], code_indented: bool) -> Result<Sheet<'_>, Refusal> {

@@ -57,7 +57,9 @@ fn worst_sheets() {
     for text in ["|", "a|", "|a", "\\|", "\t|", "a\r", "\n|", "\n||", "\n|a", "\r\na", "\n|a|a", "\na|"] {
         assert_eq!(reader.read(&repeated("a\n:-\n", text)).tables, 1, "{text:?}");
     }
-    for text in ["a\n:-\n\n", "a\n-|\n\n", "||\n:-\n\n", "a|a\n-|-\n\n", "a\n:-\na\n\n", "a\r\n:-\r\n\r\n"] {
+    for text in
+        ["a\n:-\n\n", "a\n-|\n\n", "||\n:-\n\n", "a|a\n-|-\n\n", "a\n:-\na\n\n", "a\n:-\n>\n", "a\r\n:-\r\n\r\n"]
+    {
         let times = SHEET_MAX / text.len();
         assert_eq!(reader.read(text.repeat(times).as_bytes()).tables, times, "{text:?}");
     }
@@ -69,11 +71,11 @@ fn short_sheets() {
     let mut with_tables = 0;
     for length in 0..=7 {
         let mut sheet = vec![0; length];
-        for number in 0..6usize.pow(length as u32) {
+        for number in 0..7usize.pow(length as u32) {
             let mut rest = number;
             for byte in &mut sheet {
-                *byte = b"a|-:\n "[rest % 6];
-                rest /= 6;
+                *byte = b"a|-:\n >"[rest % 7];
+                rest /= 7;
             }
             with_tables += usize::from(reader.read(&sheet).tables > 0);
         }
@@ -90,7 +92,7 @@ fn random_sheets() {
         let mut sheet = b"a\n:-\n".to_vec();
         for _ in 0..state >> 57 {
             state = state.wrapping_mul(6_364_136_223_846_793_005).wrapping_add(1_442_695_040_888_963_407);
-            sheet.push(b"aa||-:\n\n\r\t \\"[(state >> 33) as usize % 12]);
+            sheet.push(b"aa||-:\n\n\r\t \\>"[(state >> 33) as usize % 13]);
         }
         state = state.wrapping_mul(6_364_136_223_846_793_005).wrapping_add(1_442_695_040_888_963_407);
         tables += reader.read(&sheet).tables;

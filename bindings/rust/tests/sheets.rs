@@ -92,6 +92,28 @@ fn dense_sheets() {
     }
 }
 
+/// The line of each table's header, and the lines of its body rows.
+fn lines_of(text: &str, code_indented: bool) -> Vec<(usize, Vec<usize>)> {
+    let sheet = read_sheet(text.as_bytes(), code_indented).unwrap();
+    let rows = |rows: &[Row]| rows.iter().map(Row::line).collect();
+    sheet.tables().iter().map(|table| (table.header().line(), rows(table.rows()))).collect()
+}
+
+#[test]
+fn remarks() {
+    for code_indented in [true, false] {
+        let lines_of = |text: &str| lines_of(text, code_indented);
+        assert_eq!(lines_of("server|state\n-|-\nweb-1|up\n> on call: desk 2"), [(1, vec![3])]);
+        assert_eq!(lines_of("a\n:-\nb\n   > c\nd\n\ne"), [(1, vec![3])]);
+        assert_eq!(lines_of("a\r\n:-\r\n> b\r\nc\r\n-:\r\nd"), [(1, vec![]), (4, vec![6])]);
+        assert_eq!(lines_of("> a\n:-\nb"), []);
+        assert_eq!(lines_of("a\n:-\nb\n    > c\n\t> d\ne"), [(1, vec![3, 4, 5, 6])]);
+        assert_eq!(lines_of("a\n:-\n| > b\n\\> c"), [(1, vec![3, 4])]);
+    }
+    assert_eq!(lines_of("    > a\n:-", true), []);
+    assert_eq!(lines_of("    > a\n:-", false), [(1, vec![])]);
+}
+
 #[test]
 fn indented_head() {
     assert_eq!(read_sheet(b"    a\n:-", true).unwrap().tables().len(), 0);

@@ -69,9 +69,13 @@ lastByte d [] = d
 lastByte d (b ∷ s) = lastByte b s
 
 module _ (kind : ℕ → ℕ) where
+  -- at most 3 units of indent
+  abbrev pub shallow : List ℕ → Bool
+  shallow s = leb (columnPast 1 (indent kind s)) 4
+
   -- with the option on, at most 3 units of indent
   abbrev pub permitted : Bool → List ℕ → Bool
-  permitted on s = not on || leb (columnPast 1 (indent kind s)) 4
+  permitted on s = not on || shallow s
 
   -- the cells of a head line, whitespace left out
   abbrev pub headCells : List ℕ → ℕ

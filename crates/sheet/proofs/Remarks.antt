@@ -4,11 +4,9 @@ use Prim.Native.Nat.{ℕ}
 use mathlib.Core.Path.{_≡_, refl, ap, sym, _∙_}
 use mathlib.Core.List.{List, [], _∷_, head-eq-of-cons-eq}
 use mathlib.Core.Bool.{Bool, true, false, true≢false, false≢true}
-use lib.Dec.{leb}
 use borrow.Author.Tests.{eqb-true}
-use Rattle.tokenizer.specs.Points.{columnPast}
-use Rattle.tokenizer.specs.Lines.{isSpace, indent, unindented}
-use Rattle.gfm_table.specs.Heads.{onStretch, stretches, trimmed, untailed, unled, untrailed, values, hyphens, allValues}
+use Rattle.tokenizer.specs.Lines.{isSpace, unindented}
+use Rattle.gfm_table.specs.Heads.{shallow, onStretch, stretches, trimmed, untailed, unled, untrailed, values, hyphens, allValues}
 use Rattle.sheet.specs.Walk.{startsQuote, remark}
 use Rattle.sheet.specs.Demands.{Unquoted}
 use Rattle.sheet.proofs.Tests.{test, both-true}
@@ -72,6 +70,6 @@ unquoted kind zero on l d o =
     let u = d .line .body in
     test (remark kind u)
     (λ e.
-    let s = starts (unindented kind u) (both-true (leb (columnPast 1 (indent kind u)) 4) _ e .1) in
+    let s = starts (unindented kind u) (both-true (shallow kind u) _ e .1) in
     absurd (true≢false (sym (opens-head kind on l d o .valid) ∙ quoted-values kind zero u (s .0) (s .1))))
     (λ e. e)

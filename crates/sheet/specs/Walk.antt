@@ -2,14 +2,13 @@
 use Prim.Native.Nat.{ℕ}
 use mathlib.Core.List.{List, [], _∷_, _++_}
 use mathlib.Core.Bool.{Bool, false, cond, _&&_, _||_, not}
-use lib.Dec.{eqb, leb}
+use lib.Dec.{eqb}
 use Rattle.tokenizer.specs.declared.event.Event.{Event}
 use Rattle.tokenizer.specs.Events.{GfmTableHead, enter, leave}
-use Rattle.tokenizer.specs.Points.{columnPast}
-use Rattle.tokenizer.specs.Lines.{indent, unindented, blank}
+use Rattle.tokenizer.specs.Lines.{unindented, blank}
 use Rattle.tokenizer.specs.Places.{Placed, endOf, placedLines}
 use Rattle.gfm_table.specs.Rows.{Passed}
-use Rattle.gfm_table.specs.Heads.{headRefusal, values, alignments}
+use Rattle.gfm_table.specs.Heads.{shallow, headRefusal, values, alignments}
 use Rattle.gfm_table.specs.Raw.{lineEndAt, textRow, delimiterRow}
 use Rattle.edit_map.specs.Tables.{BodyRow, Table, rawTable, resolvedTable}
 
@@ -28,9 +27,9 @@ startsQuote [] = false
 startsQuote (b ∷ u) = eqb b 62
 
 module _ (kind : ℕ → ℕ) where
-  -- a quoted remark: at most 3 units of indent, then `>`
+  -- a quoted remark, as request U3 has it: at most 3 units of indent, then `>`
   abbrev pub remark : List ℕ → Bool
-  remark u = leb (columnPast 1 (indent kind u)) 4 && startsQuote (unindented kind u)
+  remark u = shallow kind u && startsQuote (unindented kind u)
 
   -- a blank line or a remark: it ends a table, and no head is tried at it
   unfoldable pub closes : List ℕ → Bool

@@ -7,10 +7,11 @@ use tokenizer::lines::line_end;
 use tokenizer::lines::line_stop;
 use tokenizer::moves::kind_at;
 ghost use mathlib.Core.Path.{_≡_};
-ghost use Prim.Native.Nat.{_≤_};
+ghost use Prim.Native.Nat.{_+_, _≤_, _<_};
 ghost use lib.ListN.{length, drop};
 ghost use Rattle.tokenizer.specs.Bytes.{kindOf};
-ghost use Rattle.tokenizer.specs.Lines.{lineBody};
+ghost use Rattle.tokenizer.specs.Lines.{lineBody, indent};
+ghost use Rattle.gfm_table.specs.Heads.{shallow};
 ghost use Rattle.gfm_table.specs.Places.{pointIn};
 ghost use Rattle.sheet.specs.Walk.{closes};
 ghost use Rattle.sheet.specs.From.{AtLine, columnsIf, columnsOf, Finds};
@@ -35,9 +36,23 @@ impl Opening {
     };
 }
 
-// Whether the line at a place ends a table: it is blank, or a remark.
+// Whether an indent of at most 3 bytes, between two places, is at most 3 units wide: no tab is in it.
+pub fn is_shallow(s: &[u8], at: usize, e: usize) -> bool
+    requires { ⌜ (e ≡ at + length (indent kindOf (lineBody (drop at (now s))))) × (e < at + 4) ⌝ }
+    ensures { λ r. ⌜ r ≡ shallow kindOf (lineBody (drop at (now (s .entry)))) ⌝ }
+{
+    let mut i = at;
+    while i < e {
+        if s[i] == 9 {
+            return false;
+        }
+        i += 1;
+    }
+    true
+}
+
+// Whether the line at a place ends a table: it is blank, or a remark. A byte is a unit or more, so 4 bytes of indent are too many for a remark.
 pub fn closes_at(s: &[u8], at: usize) -> bool
-    requires { ⌜ (length (now s) ≤ 65536) × (at ≤ length (now s)) ⌝ }
     ensures { λ r. ⌜ r ≡ closes kindOf (lineBody (drop at (now (s .entry)))) ⌝ }
 {
     let e = spaces_end(s, at);
@@ -45,7 +60,9 @@ pub fn closes_at(s: &[u8], at: usize) -> bool
         return true;
     }
     if s[e] == 62 {
-        return permits_at(s, at, true);
+        if e - at < 4 {
+            return is_shallow(s, at, e);
+        }
     }
     false
 }

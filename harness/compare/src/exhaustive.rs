@@ -45,6 +45,18 @@ pub fn sheets(tally: &mut Tally, length: usize, part: Part) {
     });
 }
 
+/// What sheets with remarks are made of.
+const REMARK_PARTS: [&[u8]; 7] = [b"a", b":-", b">", b" ", b"   ", b"\t", b"\n"];
+
+/// Sheets of so many such parts, with both options.
+pub fn remarks(tally: &mut Tally, length: usize, part: Part) {
+    each_word(&REMARK_PARTS, length, part, |parts| {
+        let sheet = parts.concat();
+        asks::sheet(tally, &sheet, true, None);
+        asks::sheet(tally, &sheet, false, None);
+    });
+}
+
 /// The shapes at 65,536 bytes and so many more, with exactly enough slots and one raw slot too few: the crate's
 /// resolver takes seconds on some. Also their first line as head and as row.
 pub fn longest_sheets(tally: &mut Tally, over: usize, part: Part) {

@@ -21,7 +21,7 @@ const SLOTS: usize = 99;
 /// A label of the document, how the crate's answer begins, and how ours does. Of a sheet, the cells by row are told.
 type Listed = (&'static str, &'static str, &'static str);
 
-const LISTED: [Listed; 32] = [
+const LISTED: [Listed; 36] = [
     ("B1", "panic expected non-empty event", "8"),
     ("B2", "ok 4 1,7,1,1,0,0,0 1,1,1,1,0,0,0 2,1,1,2,1,0,0 2,7,1,2,1,0,0", "8"),
     ("B3", "ok 4 1,7,", "1"),
@@ -48,13 +48,17 @@ const LISTED: [Listed; 32] = [
     ("A8", "ok", "13"),
     ("A9", "panic attempt to subtract with overflow", "13"),
     ("A10", "ok 1 1", "13"),
-    ("G1", "cells by row 1 1", "cells by row 1 1"),
+    ("G1", "cells by row 1", "cells by row 1"),
     ("G2", "cells by row 1 1", "cells by row 1 1"),
     ("G3", "cells by row 2 1", "cells by row 2 1"),
     ("G4", "cells by row 1 2", "cells by row 1 2"),
     // One piece of data, both bytes of it.
     ("G5", "0 14 5 1 | 1,6,1,1,0,0,0 1,7,1,1,0,0,0 1,3,1,1,0,0,0 2,3,1,3,2,0,0", "0 14 5 1"),
     ("G6", "0 20 8 2", "0 20 8 2"),
+    ("G7", "ok 4 1,7,3,1,5,0,0 1,3,3,1,5,0,0 2,3,3,2,6,0,0 2,7,3,2,6,0,0", "0 4 6"),
+    ("G8", "cells by row 1 1", "cells by row 1 1"),
+    ("G9", "cells by row 1 1", "cells by row 1 1"),
+    ("G10", "cells by row", "cells by row"),
 ];
 
 /// The words of the request that the document gives under a label, without the string before it.

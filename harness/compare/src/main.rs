@@ -68,13 +68,14 @@ fn in_threads(name: &str, total: &mut Tally, work: impl Fn(&mut Tally, Part) + S
 /// Every short input of each kind.
 fn compare_exhaustively(total: &mut Tally) {
     type Work = fn(&mut Tally, usize, Part);
-    let kinds: [(&str, usize, Work); 7] = [
+    let kinds: [(&str, usize, Work); 8] = [
         ("resolve, records,", 4, exhaustive::resolve_records),
         ("resolve, pieces a row,", 7, exhaustive::resolve_tables),
         ("align, records,", 7, exhaustive::align_records),
         ("edit, edits,", 3, exhaustive::edits),
         ("all shapes, 65,536 bytes and", 1, exhaustive::longest_sheets),
         ("heads and rows, bytes,", 6, exhaustive::heads_and_rows),
+        ("sheets, parts with remarks,", 8, exhaustive::remarks),
         ("sheets, bytes,", 8, exhaustive::sheets),
     ];
     for (name, longest, work) in kinds {

@@ -2,10 +2,11 @@
 
 use harness::kept::random::Random;
 use harness::kept::sheet_cases as cases;
+use harness::lines::lines;
 use harness::shapes;
 
 /// Bytes to draw from, as often as they stand there.
-const ALPHABETS: [&[u8]; 8] = [
+const ALPHABETS: [&[u8]; 9] = [
     b"aab||||--:\\ \t\n\n\r",
     b"a|-:\n",
     b"a|-\n\n",
@@ -14,6 +15,7 @@ const ALPHABETS: [&[u8]; 8] = [
     b"a|-:\r\n",
     b"aaaaaaaaaaaaaaaa|\n",
     b"\t a|-:\n\t",
+    b"a>:-> \n\n|\t",
 ];
 
 /// A length: mostly short, now and then up to the longest sheet and one more byte.
@@ -54,7 +56,7 @@ pub fn any(random: &mut Random) -> Vec<u8> {
         3 | 4 => cases::tabular(random, 6),
         5 => cases::tabular(random, 40),
         6 => cases::several(random),
-        7 => random.pick(&cases::by_hand()).clone(),
+        7 => by_hand(random),
         _ => stretch(random),
     };
     if random.percent(50) {
@@ -62,10 +64,30 @@ pub fn any(random: &mut Random) -> Vec<u8> {
             damage(random, &mut sheet);
         }
     }
+    if random.percent(25) {
+        add_remark(random, &mut sheet);
+    }
     if random.percent(15) {
         sheet = with_line_ends(random, &sheet);
     }
     sheet
+}
+
+/// A sheet chosen by hand, of all kinds or one about remarks.
+fn by_hand(random: &mut Random) -> Vec<u8> {
+    if random.percent(30) {
+        return random.pick(&cases::REMARKS).1.as_bytes().to_vec();
+    }
+    random.pick(&cases::by_hand()).clone()
+}
+
+/// A remark, or a line that is near to one, before some line, or its mark before a line's text.
+fn add_remark(random: &mut Random, sheet: &mut Vec<u8>) {
+    let starts: Vec<usize> = lines(sheet).iter().map(|line| line.start).collect();
+    let start = *random.pick(&starts);
+    let indent = *random.pick(&cases::REMARK_INDENTS);
+    let text = random.text(&[">", ">", ">", "> a", ">a|b", "->", ">\n", "> a\n", ">|\n"]);
+    sheet.splice(start..start, [indent, text].concat().into_bytes());
 }
 
 /// One byte flipped, deleted or inserted, or two lines exchanged, or a stretch doubled.

@@ -48,6 +48,7 @@ pub fn kept() -> Kept {
     add_offsets(&mut kept);
     add_spaces(&mut kept);
     add_random(&mut kept);
+    add_remarks(&mut kept);
     kept
 }
 
@@ -135,5 +136,20 @@ fn add_random(kept: &mut Kept) {
         let code_indented = random.percent(70);
         let spare = random.percent(15);
         add(kept, &Ask { code_indented, ..Ask::at(&sheet, offset) }, spare);
+    }
+}
+
+/// Heads at remarks, which this call reads like any other line, and above them.
+fn add_remarks(kept: &mut Kept) {
+    for (_, text) in cases::REMARKS {
+        for line in lines(text.as_bytes()) {
+            add(kept, &Ask::at(text.as_bytes(), line.start as u64), false);
+        }
+    }
+    for indent in cases::REMARK_INDENTS {
+        for code_indented in [true, false] {
+            add(kept, &Ask { code_indented, ..Ask::at(&cases::with_remark(1, indent, "\n"), 0) }, false);
+        }
+        add(kept, &Ask::at(&cases::with_remark(2, indent, "\n"), 0), false);
     }
 }

@@ -20,6 +20,7 @@ pub fn kept() -> Kept {
     add_offsets(&mut kept);
     add_spaces(&mut kept);
     add_random(&mut kept);
+    add_remarks(&mut kept);
     kept
 }
 
@@ -120,5 +121,17 @@ fn add_random(kept: &mut Kept) {
         let lazy = random.percent(4);
         let spare = random.percent(15);
         add(kept, &sheet, offset, lazy, spare);
+    }
+}
+
+/// Remarks as rows: this call reads them like any other line.
+fn add_remarks(kept: &mut Kept) {
+    for (_, text) in cases::REMARKS {
+        for line in lines(text.as_bytes()) {
+            add(kept, text.as_bytes(), line.start as u64, false, false);
+        }
+    }
+    for indent in cases::REMARK_INDENTS {
+        add(kept, &cases::with_remark(3, indent, "\n"), 5, false, false);
     }
 }

@@ -205,6 +205,57 @@ pub fn with_indent(place: usize, indent: &str) -> Vec<u8> {
     lines.join("\n").into_bytes()
 }
 
+/// Remarks, and lines that are near to one.
+pub const REMARKS: [Case; 22] = [
+    ("bare", "a\n:-\n>"),
+    ("barealone", ">"),
+    ("nospace", "a\n:-\nb\n>c"),
+    ("piped", "a|b\n-|-\n> c | d\ne|f"),
+    ("framed", "a|b\n-|-\n|> c|d|\n| > e\n>|f|"),
+    ("nested", "a\n:-\n>> b\n> > c"),
+    ("inside", "a\n:-\nb > c\nb\n-> d"),
+    ("escaped", "a\n:-\n\\> b\nc"),
+    ("several", "a\n:-\n> b\n> c\n\n> d\n>"),
+    ("under", "a\n> -\n:-"),
+    ("quotedhead", "> a\n> :-\n> b"),
+    ("quotedrow", ">a|b\n-|-\nc"),
+    ("quoteddelimiter", "a\n>:-\nb"),
+    ("delimiterhead", "> a\n:-\n:-\nb"),
+    ("lazy", "> a\nb\n:-\nc"),
+    ("tablebehind", "a\n:-\n> b\nc\n-:\nd"),
+    ("tableabove", "> a\nb\n:-\n\n> c\nd\n:-:\n> e\nf"),
+    ("rowbehind", "a\n:-\nb\n> c\nd\n\ne"),
+    ("blankafter", "a\n:-\nb\n> c\n\nd\n:-\n"),
+    ("blankbefore", "a\n:-\nb\n\n> c\nd\n:-\n"),
+    ("other", "a\n:-\n< b\n= c\n? d\n&gt; e"),
+    ("wide", "a\n:-\n\u{ff1e} b\n\u{203a} c"),
+];
+
+/// Indents before a remark: 0 to 5 units, and with tabs.
+pub const REMARK_INDENTS: [&str; 11] = ["", " ", "  ", "   ", "    ", "     ", "\t", " \t", "  \t", "   \t", "\t "];
+
+/// How many places `with_remark` knows.
+pub const REMARK_PLACES: usize = 7;
+
+/// The line ends of sheets with a remark.
+pub const REMARK_LINE_ENDS: [&str; 3] = ["\n", "\r", "\r\n"];
+
+/// A table with a remark in one of so many places: above it, as its head line, as its second line, below it as the first, a middle and the
+/// last line, and between it and another.
+pub fn with_remark(place: usize, indent: &str, line_end: &str) -> Vec<u8> {
+    let remark = &format!("{indent}> c")[..];
+    let lines: &[&str] = match place {
+        0 => &[remark, "a", ":-", "b", "d"],
+        1 => &[remark, ":-", "b", "d"],
+        2 => &["a", remark, ":-", "b"],
+        3 => &["a", ":-", remark, "b", "d"],
+        4 => &["a", ":-", "b", remark, "d"],
+        5 => &["a", ":-", "b", "d", remark],
+        _ => &["a", ":-", remark, "b", "-:", "d"],
+    };
+    lines.join(line_end).into_bytes()
+}
+
 /// All sheets chosen by hand.
 pub fn by_hand() -> Vec<Vec<u8>> {
     let texts = READINGS.iter().chain(&SPECIFICATION).chain(&HEADS).chain(&ESCAPES).chain(&BODIES);

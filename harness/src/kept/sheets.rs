@@ -42,6 +42,7 @@ pub fn kept() -> Kept {
     add_places(&mut kept);
     add_large(&mut kept);
     add_random(&mut kept);
+    add_remarks(&mut kept);
     kept
 }
 
@@ -102,5 +103,27 @@ fn add_random(kept: &mut Kept) {
         let code_indented = random.percent(70);
         let spare = random.percent(8);
         add(kept, &sheet, code_indented, spare);
+    }
+}
+
+/// Remarks chosen by hand, and one in every place behind every indent, with both options; line ends and further choices of slots in turn.
+fn add_remarks(kept: &mut Kept) {
+    for (number, (_, text)) in cases::REMARKS.iter().enumerate() {
+        add(kept, text.as_bytes(), true, number % 5 == 0);
+    }
+    for place in 0..cases::REMARK_PLACES {
+        for (number, indent) in cases::REMARK_INDENTS.iter().enumerate() {
+            for code_indented in [true, false] {
+                let turn = place + number + usize::from(code_indented);
+                let sheet = cases::with_remark(place, indent, cases::REMARK_LINE_ENDS[turn % 3]);
+                let slots = needed(&sheet, code_indented);
+                kept.add(request(&sheet, code_indented, slots));
+                if slots[0] > 0 && turn % 4 == 0 {
+                    kept.add(request(&sheet, code_indented, [slots[0] - 1, slots[1], slots[2]]));
+                    kept.add(request(&sheet, code_indented, [slots[0], slots[1] - 1, slots[2]]));
+                    kept.add(request(&sheet, code_indented, [slots[0], slots[1], slots[2] - 1]));
+                }
+            }
+        }
     }
 }

@@ -3,6 +3,7 @@
 use Prim.Native.Nat.{_+_}
 use mathlib.Core.Path.{_≡_, sym, _∙_}
 use mathlib.Core.List.{_∷_}
+use native.Mathlib.Omega.{arith}
 use borrow.Author.Needs.{needs}
 use borrow.Author.Tests.{eq-eqb}
 use lib.ListN.{drop, getD}
@@ -12,7 +13,7 @@ use Rattle.tokenizer.specs.Lines.{lineBody, unindented}
 use Rattle.tokenizer.proofs.Ends.{blank-ahead}
 use Rattle.tokenizer.proofs.Ahead.{Front, goes}
 use Rattle.gfm_table.specs.Places.{pointIn}
-use Rattle.sheet.proofs.Closing.{blank-closes, closes-quote, closes-other, unindented-at}
+use Rattle.sheet.proofs.Closing.{blank-closes, closes-quote, closes-other, deep, unindented-at}
 use Rattle.sheet.proofs.seek.closes_at.Statement.{statement}
 use Rattle.sheet.proofs.seek.closes_at.Tie as tie
 
@@ -36,19 +37,28 @@ front c = goes _ _ _ (c .before .kind-at .ensures) (c .if1 .left)
 shared-slice-read-if2 : tie.Need-shared-slice-read-if2
 shared-slice-read-if2 c = let f = front (c .before) in search needs
 
-permits-at-requires : tie.Need-permits-at-requires
-permits-at-requires c κs = search needs
-
 -- it stands behind the indent
 behind : (c : tie.Else1) → let a = c .before .before .before .before .args in let e = c .before .before .spaces-end .result in
     unindented kindOf (lineBody (drop (a .at) (now (a .s)))) ≡ getD (now (a .s)) e 0 ∷ lineBody (drop (e + 1) (now (a .s)))
 behind c = let a = c .before .before .before .before .args in unindented-at (now (a .s)) (a .at) _ _ (c .before .before .spaces-end .ensures) (front c)
 
+sub-if3 : tie.Need-sub-if3
+sub-if3 c = omega (arith, c .before .before .before .before .spaces-end .ensures)
+
+is-shallow-requires : tie.Need-is-shallow-requires
+is-shallow-requires c κs = (c .before .before .before .before .before .spaces-end .ensures, omega (arith, c .if3 .taken))
+
 returns-2 : tie.Need-returns-2
-returns-2 c = c .permits-at .ensures ∙ sym (closes-quote kindOf _ _ _ (behind (c .before .before .before)) (c .before .if2 .taken))
+returns-2 c = let q = c .before .before in c .is-shallow .ensures ∙ sym (closes-quote kindOf _ _ _ (behind (q .before .before)) (q .if2 .taken))
 
 returns-3 : tie.Need-returns-3
-returns-3 c = sym (closes-other kindOf _ _ _ (behind (c .before .before)) (c .if2 .left))
+returns-3 c =
+    let q = c .before in
+    let w = q .before .before .before .before in
+    sym (closes-quote kindOf _ _ _ (behind (q .before .before)) (q .if2 .taken) ∙ deep kindOf _ (λ h. omega (arith, w .spaces-end .ensures, c .if3 .left)))
+
+returns-4 : tie.Need-returns-4
+returns-4 c = sym (closes-other kindOf _ _ _ (behind (c .before .before)) (c .if2 .left))
 
 pub closes-at-spec : {M : Type 1} → statement M
-closes-at-spec = tie.close (tie.spec spaces-end-requires kind-at-requires returns shared-slice-read-if2 permits-at-requires returns-2 returns-3)
+closes-at-spec = tie.close (tie.spec spaces-end-requires kind-at-requires returns shared-slice-read-if2 sub-if3 is-shallow-requires returns-2 returns-3 returns-4)

@@ -87,7 +87,7 @@ add-l : tie.Need-add-l Inv-loop μ-loop
 add-l c = let h = onward c .inside in omega (arith, h .lined, h .within, h .short)
 
 closes-at-requires : tie.Need-closes-at-requires Inv-loop μ-loop
-closes-at-requires c κs = let h = onward c .inside in (h .short, h .within)
+closes-at-requires c κs = search needs
 
 -- whether it ends the table
 tested : (c : tie.After-closes-at Inv-loop μ-loop) → let r = c .before .before in let l = r .before .before .loop in let s = now (r .before .before .before .before .args .s) in
