@@ -3,7 +3,8 @@
 use Prim.Native.Nat.{ℕ}
 use mathlib.Core.Path.{_≡_, refl, ap, sym, _∙_}
 use mathlib.Core.List.{List, [], _∷_, head-eq-of-cons-eq}
-use mathlib.Core.Bool.{Bool, true, false, true≢false, false≢true}
+use mathlib.Core.Bool.{true, false, true≢false, false≢true}
+use native.Mathlib.Omega.{arith}
 use borrow.Author.Tests.{eqb-true}
 use Rattle.tokenizer.specs.Lines.{isSpace, unindented}
 use Rattle.gfm_table.specs.Heads.{shallow, onStretch, stretches, trimmed, untailed, unled, untrailed, values, hyphens, allValues}
@@ -12,16 +13,9 @@ use Rattle.sheet.specs.Demands.{Unquoted}
 use Rattle.sheet.proofs.Tests.{test, both-true}
 use Rattle.sheet.proofs.Walks.{opens-head}
 
-nil-ne-cons : {b : ℕ} {u : List ℕ} → _≡_ {A = List ℕ} [] (b ∷ u) → ⊥
-nil-ne-cons {b} {u} e = true≢false (ap isNil e)
-  where
-    isNil : List ℕ → Bool
-    isNil [] = true
-    isNil (c ∷ v) = false
-
-starts : (u : List ℕ) → startsQuote u ≡ true → (v : List ℕ) × (u ≡ 62 ∷ v)
-starts [] h = absurd (false≢true h)
-starts (b ∷ u) h = (u, ap (λ (c : ℕ). c ∷ u) (eqb-true b 62 h))
+quote-first : (u : List ℕ) → startsQuote u ≡ true → (v : List ℕ) × (u ≡ 62 ∷ v)
+quote-first [] h = absurd (false≢true h)
+quote-first (b ∷ u) h = (u, ap (λ (c : ℕ). c ∷ u) (eqb-true b 62 h))
 
 module _ (kind : ℕ → ℕ) (zero : kind 62 ≡ 0) where
   -- the stretches of a line, the first of which begins with `>` behind its whitespace
@@ -43,7 +37,7 @@ module _ (kind : ℕ → ℕ) (zero : kind 62 ≡ 0) where
 
   quoted : (u v : List ℕ) → unindented kind u ≡ 62 ∷ v → Quoted (stretches kind u)
   unfolding stretches unindented
-  quoted [] v h = absurd (nil-ne-cons h)
+  quoted [] v h = let z : _≡_ {A = ℕ} 0 1 = cc in absurd (omega arith)
   quoted (b ∷ u) v h =
       test (isSpace kind b)
       (λ e. rw (eqb-true (kind b) 1 e) (on-space b e (quoted u v (rw e at h))))
@@ -70,6 +64,6 @@ unquoted kind zero on l d o =
     let u = d .line .body in
     test (remark kind u)
     (λ e.
-    let s = starts (unindented kind u) (both-true (shallow kind u) _ e .1) in
+    let s = quote-first (unindented kind u) (both-true (shallow kind u) _ e .1) in
     absurd (true≢false (sym (opens-head kind on l d o .valid) ∙ quoted-values kind zero u (s .0) (s .1))))
     (λ e. e)

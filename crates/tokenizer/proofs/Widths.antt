@@ -8,7 +8,7 @@ use mathlib.Core.List.{List, [], _∷_}
 use native.Mathlib.Omega.{arith}
 use borrow.Author.Tests.{eq-eqb, eqb-true, eqb-false, leb-true, leb-false}
 use lib.Dec.{eqb, leb}
-use lib.ListN.{drop}
+use lib.ListN.{length, drop}
 use lib.Seq.{drop-drop}
 use Rattle.tokenizer.specs.declared.event.Point.{Point}
 use Rattle.tokenizer.specs.Bytes.{kindOf, isEnd}
@@ -51,10 +51,11 @@ after-more c b = go (eqb b 9)
     go true = omega arith
     go false = omega arith
 
-past-more : (c : ℕ) (u : List ℕ) → c ≤ columnPast c u
+-- a byte is a unit or more
+pub bytes-wide : (c : ℕ) (u : List ℕ) → c + length u ≤ columnPast c u
 unfolding columnPast
-past-more c [] = omega arith
-past-more c (b ∷ u) = let h = past-more (columnAfter c b) u in omega (arith, after-more c b)
+bytes-wide c [] = omega arith
+bytes-wide c (b ∷ u) = let h = bytes-wide (columnAfter c b) u in omega (arith, after-more c b)
 
 -- ## Runs
 
@@ -167,10 +168,10 @@ front s n p b v w d f k = go (eqb b 9) refl (λ m. subst (λ (q : Point). Runs s
         let x = column-tab (p .column) b z in
         tab s n p v e (past p (b ∷ w)) (d ∙ ap (λ (y : ℕ). y ∷ v) (eqb-true b 9 z))
         (λ m. subst (λ (c : ℕ). Runs s m (behind p c) e (past p (b ∷ w))) x (r m))
-        (omega (arith, past-more (columnAfter (p .column) b) w))
+        (omega (arith, bytes-wide (columnAfter (p .column) b) w))
     go false z r =
         blank s n p b v e (past p (b ∷ w)) d (eq-eqb (kindOf b) 1 f) (no-end b (λ y. absurd (let o : _≡_ {A = ℕ} 1 2 = sym f ∙ y in omega arith))) z r
-        (omega (arith, after-more (p .column) b, past-more (columnAfter (p .column) b) w))
+        (omega (arith, after-more (p .column) b, bytes-wide (columnAfter (p .column) b) w))
 
 pub widths : (u : List ℕ) (s : List ℕ) (n : ℕ) (p : Point) → drop (p .index) s ≡ u → p .vs ≡ 0 → Widths s n p (white u)
 unfolding lineBody indent
