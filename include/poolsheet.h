@@ -9,6 +9,8 @@
  * - What a call writes to must not overlap anything else that it is lent.
  * - The call returns 0 (accepted), or the number of the first question that was answered no (refused).
  * - `counts` is written in the order that the call's comment gives. Refused, every count is 0.
+ * - A byte order mark (the bytes EF BB BF) at offset 0 is passed over: line 1 then starts at offset 3, in column 1, and no line starts at
+ *   offsets 0, 1 and 2. Offsets count from the sheet's first byte, mark included, and so do the 65,536 bytes.
  * - Slots that are lent for an answer are all written: the answer first, then blank records, or zeros. Refused, all are blank.
  *   Edit slots are no such slots.
  */

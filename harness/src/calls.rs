@@ -1,5 +1,6 @@
 //! The six calls of document 01, each with its questions in order. A refusal is `Err` of its number.
 
+use crate::bom::unmarked;
 use crate::drive::{self, Flags};
 use crate::event::Event;
 use crate::lines::{lines, Line};
@@ -41,21 +42,23 @@ fn end_of(events: &[Record]) -> u64 {
 /// Head: questions 1, 2, then 3 to 7 by the crate, then 9.
 pub fn head(sheet: &[u8], offset: u64, code_indented: bool, flags: Flags, slots: u64) -> Result<Head, u8> {
     ask(questions::is_short_enough(sheet), 1)?;
-    let all = lines(sheet);
-    let from = questions::lines_from(&all, offset).ok_or(2)?;
-    let driven = drive::head(sheet, from, code_indented, flags)?;
+    let sheet = unmarked(sheet);
+    let all = lines(sheet.text);
+    let from = sheet.offset(offset).and_then(|offset| questions::lines_from(&all, offset)).ok_or(2)?;
+    let driven = drive::head(sheet.text, from, code_indented, flags)?;
     ask(questions::has_slots(slots, driven.events.len()), 9)?;
-    let events = record::from_events(&driven.events);
+    let events = sheet.raised(record::from_events(&driven.events));
     Ok(Head { end: end_of(&events), events, cells: driven.cells })
 }
 
 /// Row: questions 1, 2, then 5 by the crate, then 8 and 9. A blank line is not given to the crate unless it is lazy.
 pub fn row(sheet: &[u8], offset: u64, lazy: bool, slots: u64) -> Result<Row, u8> {
     ask(questions::is_short_enough(sheet), 1)?;
-    let all = lines(sheet);
-    let line = questions::lines_from(&all, offset).ok_or(2)?[0];
-    ask(lazy || questions::is_not_blank(sheet, line), 8)?;
-    let events = record::from_events(&drive::row(sheet, line, lazy)?);
+    let sheet = unmarked(sheet);
+    let all = lines(sheet.text);
+    let line = sheet.offset(offset).and_then(|offset| questions::lines_from(&all, offset)).ok_or(2)?[0];
+    ask(lazy || questions::is_not_blank(sheet.text, line), 8)?;
+    let events = sheet.raised(record::from_events(&drive::row(sheet.text, line, lazy)?));
     ask(questions::has_slots(slots, events.len()), 9)?;
     Ok(Row { end: end_of(&events), events })
 }
@@ -94,18 +97,19 @@ pub struct SheetSlots {
 /// Sheet: question 1, then 9, 12 and 14, each once for the whole sheet.
 pub fn sheet(sheet: &[u8], code_indented: bool, slots: &SheetSlots) -> Result<Sheet, u8> {
     ask(questions::is_short_enough(sheet), 1)?;
-    let tables = raw_tables(sheet, code_indented);
+    let sheet = unmarked(sheet);
+    let tables = raw_tables(sheet.text, code_indented);
     let raw: Vec<Event> = tables.iter().flatten().cloned().collect();
     ask(questions::has_slots(slots.raw, raw.len()), 9)?;
     let results = run::resolve_events(raw.clone());
     ask(questions::has_slots(slots.results, results.len()), 12)?;
     let alignments = run::all_alignments(&results);
     ask(questions::has_slots(slots.alignments, alignments.len()), 14)?;
-    let (raw, results) = (record::from_events(&raw), record::from_events(&results));
+    let [raw, results] = [raw, results].map(|events| sheet.raised(record::from_events(&events)));
     Ok(Sheet { tables: tables.len(), raw, results, alignments })
 }
 
-/// The walk of 01, with request U3: the raw events of each table, in sheet order.
+/// The walk of 01, with request U3, over a sheet without a byte order mark: the raw events of each table, in sheet order.
 pub fn raw_tables(sheet: &[u8], code_indented: bool) -> Vec<Vec<Event>> {
     Walk::new(sheet).raw_tables(code_indented)
 }
@@ -165,7 +169,7 @@ fn next_closing(sheet: &[u8], lines: &[Line]) -> Vec<usize> {
 
 /// Whether the crate resolves all tables of a sheet in one list as it does each alone.
 pub fn resolves_apart(sheet: &[u8], code_indented: bool) -> bool {
-    let tables = raw_tables(sheet, code_indented);
+    let tables = raw_tables(unmarked(sheet).text, code_indented);
     let together = run::resolve_events(tables.iter().flatten().cloned().collect());
     let apart: Vec<Event> = tables.into_iter().flat_map(run::resolve_events).collect();
     record::from_events(&together) == record::from_events(&apart)

@@ -25,6 +25,7 @@ pub mod util;
 pub use options::{Constructs, ParseOptions};
 
 // The harness.
+pub mod bom;
 pub mod calls;
 pub mod crate_only;
 pub mod drive;

@@ -9,11 +9,11 @@ pub struct Shape {
     pub make: fn(usize) -> Vec<u8>,
 }
 
-/// The kept sheets, one after the other.
+/// The kept sheets, one after the other; the first begins with a byte order mark.
 const KEPT: [&str; 3] = [
+    include_str!("../../sheets/mail.md"),
     include_str!("../../sheets/checkout.md"),
     include_str!("../../sheets/images.md"),
-    include_str!("../../sheets/mail.md"),
 ];
 
 /// Shapes of pool sheets; the first is the typical one.

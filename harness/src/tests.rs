@@ -1,12 +1,13 @@
 //! Tests of the harness itself: the example of 01, its table of readings, and the order of refusals.
 
+use crate::bom::BOM;
 use crate::calls::{self, SheetSlots};
 use crate::drive::Flags;
 use crate::kept::random::Random;
 use crate::kept::{self, sheet_cases};
 use crate::print;
 use crate::protocol::answer;
-use crate::record;
+use crate::record::{self, Record};
 use std::path::Path;
 
 const MANY: SheetSlots = SheetSlots { raw: 1024, results: 1024, alignments: 1024 };
@@ -108,6 +109,37 @@ fn remarks_close_tables() {
             assert_eq!((shape_of(&first, true), shape_of(&first, false)), ((1, 3), (1, 3)), "{indent:?}");
             let head = sheet_cases::with_remark(1, indent, line_end);
             assert_eq!((shape_of(&head, true), shape_of(&head, false)), ((0, 0), (1, 2)), "{indent:?}");
+        }
+    }
+}
+
+#[test]
+fn mark_is_passed_over() {
+    for offset in [0, 1, 2, 4] {
+        assert_eq!(asked(&format!("head {offset} 1 0 0 14"), "\u{feff}a\n:-"), "2 0 0 0 | +14");
+        assert_eq!(asked(&format!("row {offset} 0 4"), "\u{feff}a\n:-"), "2 0 0 | +4");
+    }
+    assert!(asked("head 3 1 0 0 14", "\u{feff}a\n:-").starts_with("0 14 7 1 | 1,6,1,1,3,0,0 1,7,1,1,3,0,0 "));
+    assert!(asked("row 3 0 4", "\u{feff}a\n:-").starts_with("0 4 4 | 1,7,1,1,3,0,0 "));
+    assert_eq!(asked("head 3 1 0 0 1", "\u{feff}"), "4 0 0 0 | +1");
+    assert_eq!(asked("row 3 0 1", "\u{feff}"), "8 0 0 | +1");
+    assert_eq!(asked("sheet 1 1 1 1", "\u{feff}"), "0 0 0 0 0 | +1 | +1 | +1");
+    // The second of two is text, as wide as its bytes.
+    assert!(asked("row 3 0 4", "\u{feff}\u{feff}").starts_with("0 4 6 | 1,7,1,1,3,0,0 1,3,1,1,3,0,0 2,3,1,4,6,0,0 "));
+    // Question 1 counts it.
+    assert_eq!(asked("sheet 1 0 0 0", &("\u{feff}".to_string() + &"a".repeat(65_533))), "0 0 0 0 0 | +0 | +0 | +0");
+    assert_eq!(asked("sheet 1 0 0 0", &("\u{feff}".to_string() + &"a".repeat(65_534))), "1 0 0 0 0 | +0 | +0 | +0");
+}
+
+#[test]
+fn mark_moves_indices_alone() {
+    for sheet in sheet_cases::by_hand().iter().filter(|sheet| !sheet.starts_with(&BOM)) {
+        let plain = calls::sheet(sheet, true, &MANY).ok().unwrap();
+        let marked = calls::sheet(&[&BOM[..], sheet].concat(), true, &MANY).ok().unwrap();
+        assert_eq!((plain.tables, &plain.alignments), (marked.tables, &marked.alignments));
+        for (one, other) in [(plain.raw, marked.raw), (plain.results, marked.results)] {
+            let moved: Vec<Record> = one.iter().map(|record| Record { index: record.index + 3, ..*record }).collect();
+            assert_eq!(moved, other, "{sheet:?}");
         }
     }
 }

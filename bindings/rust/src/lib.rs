@@ -11,6 +11,8 @@
 //! # Ok::<(), poolsheet::Refusal>(())
 //! ```
 //!
+//! A byte order mark before the first line is passed over, so that the first header has its name; offsets count it.
+//!
 //! [`calls`] has the library's six calls as they are, over slots that the caller lends, and [`ffi`] their C declarations.
 //!
 //! The library is linked for x86-64 Linux.

@@ -80,6 +80,24 @@ fn row_refused() {
 }
 
 #[test]
+fn head_and_row_behind_a_mark() {
+    let sheet = [b"\xef\xbb\xbf", SHEET].concat();
+    let mut raw = stale(22);
+    assert_eq!(calls::head(&sheet, 3, true, false, false, &mut raw), Ok(calls::Head { events: 22, end: 11, cells: 2 }));
+    let moved: Vec<Event> = events(SHEET).0.iter().map(|event| Event { index: event.index + 3, ..*event }).collect();
+    assert_eq!(raw, moved[..22]);
+    assert_eq!(calls::row(&sheet, 12, false, &mut raw), Ok(calls::Row { events: 4, end: 13 }));
+    assert_eq!(raw[..4], moved[24..]);
+    for offset in 0..3 {
+        assert_eq!(calls::head(&sheet, offset, true, false, false, &mut raw), Err(Refusal::NoLineStart));
+        assert!(all_blank(&raw));
+        assert_eq!(calls::row(&sheet, offset, false, &mut raw), Err(Refusal::NoLineStart));
+    }
+    assert_eq!(calls::head(&sheet[..3], 3, true, false, false, &mut raw), Err(Refusal::NoHeadLine));
+    assert_eq!(calls::row(&sheet[..3], 3, false, &mut raw), Err(Refusal::BlankRow));
+}
+
+#[test]
 fn resolve() {
     let (raw, results) = events(SHEET);
     let mut slots = stale(60);

@@ -115,6 +115,26 @@ fn remarks() {
 }
 
 #[test]
+fn marked_sheet() {
+    let bytes = fs::read(Path::new(env!("CARGO_MANIFEST_DIR")).join("../../sheets/mail.md")).unwrap();
+    assert!(bytes.starts_with(b"\xef\xbb\xbfhost"));
+    let sheet = read_sheet(&bytes, true).unwrap();
+    let table = &sheet.tables()[0];
+    assert_eq!(table.position(b"host"), Some(0));
+    assert_eq!((table.header().line(), table.header().cells()[0].range()), (1, Some(3..7)));
+    assert_eq!(table.column(0).take(2).collect::<Vec<_>>(), [b"mx-1", b"mx-2"]);
+
+    // The same tables as without the mark; twice, or later on, it is text.
+    let plain = read_sheet(&bytes[3..], true).unwrap();
+    assert!(plain.tables()[0].column(0).eq(table.column(0)));
+    for text in ["\u{feff}\u{feff}host\n:-", "\n\u{feff}host\n:-"] {
+        let sheet = read_sheet(text.as_bytes(), true).unwrap();
+        assert_eq!(sheet.tables()[0].header().cells()[0].text(), "\u{feff}host".as_bytes(), "{text:?}");
+    }
+    assert_eq!(read_sheet("\u{feff}".as_bytes(), true).unwrap().tables().len(), 0);
+}
+
+#[test]
 fn indented_head() {
     assert_eq!(read_sheet(b"    a\n:-", true).unwrap().tables().len(), 0);
     assert_eq!(read_sheet(b"    a\n:-", false).unwrap().tables().len(), 1);

@@ -7,15 +7,17 @@ use mathlib.Core.Bool.{Bool, true, false, false≢true}
 use native.Mathlib.Omega.{arith}
 use lib.Dec.{eqb}
 use lib.ListN.{length, drop}
-use lib.Seq.{drop-at}
+use lib.Seq.{drop-at, drop-drop}
 use borrow.Author.Tests.{eqb-true, le-leb, lt-leb}
 use Rattle.tokenizer.specs.declared.event.Point.{Point}
 use Rattle.tokenizer.specs.Points.{start, columnPast}
-use Rattle.tokenizer.specs.Lines.{Line, lines, lineNumber, blank, isEmpty, unindented}
-use Rattle.tokenizer.specs.Places.{Placed, placed, placedLines}
+use Rattle.tokenizer.specs.Lines.{Line, lines, firstStart, lineNumber, blank, isEmpty, unindented}
+use Rattle.tokenizer.specs.Places.{Placed, placed, placedLines, firstPoint}
+use Rattle.tokenizer.proofs.Starts.{first-zero}
 use Rattle.gfm_table.specs.Heads.{marked}
+use Rattle.gfm_table.specs.Places.{pointIn}
 use Rattle.sheet.specs.Walk.{closes, opens, heads, rows, tables}
-use Rattle.sheet.specs.Demands.{LineFrom, blankLast, Fresh, tablesFrom, Shifted, Beyond}
+use Rattle.sheet.specs.Demands.{Each, LineFrom, blankLast, Fresh, tablesFrom, SameTable, Shifted, Beyond, BomPassed}
 use Rattle.sheet.proofs.Lists.{each-weaken}
 use Rattle.sheet.proofs.Alike.{rawTable-alike, resolvedTable-alike}
 use Rattle.sheet.proofs.Tests.{by-cases}
@@ -116,18 +118,20 @@ module _ (kind : ℕ → ℕ) (on : Bool) where
   -- what is read from a line with a blank line or none before it is read of the bytes from there on
   reading : (s : List ℕ) (up : List Placed) (l : Placed) (below : List Placed) → placedLines s ≡ up ++ l ∷ below → blankLast kind up ≡ true
       → tablesFrom (l .at .index) (tables kind on s) ≡ heads kind on (placed (l .at) (lines (drop (l .at .index) s)))
-  reading s up l below split gap = go (placedAt start (lines s) up l below split)
+  reading s up l below split gap = go (placedAt (firstPoint s) (lines (drop (firstStart s) s)) up l below split)
     where
-      cut : (c : PlacedAt start (lines s) up l) → Around s (c .ls) (l .line) (c .ms) → lines (drop (l .at .index) s) ≡ l .line ∷ c .ms
+      cut : (c : PlacedAt (firstPoint s) (lines (drop (firstStart s) s)) up l) → Around (drop (firstStart s) s) (c .ls) (l .line) (c .ms) → lines (drop (l .at .index) s) ≡ l .line ∷ c .ms
       cut c d =
-          ap (λ (z : List ℕ). lines (drop (l .at .index) z)) (d .whole)
-          ∙ ap lines (drop-at (d .x) (l .line .body ++ d .y) (l .at .index) (omega (arith, d .size start, ap (λ (z : Point). z .index) (c .here))))
+          ap (λ (i : ℕ). lines (drop i s)) (ap (λ (z : Point). z .index) (c .here) ∙ d .size (firstPoint s))
+          ∙ ap lines (sym (drop-drop (length (d .x)) (firstStart s) s))
+          ∙ ap (λ (z : List ℕ). lines (drop (length (d .x)) z)) (d .whole)
+          ∙ ap lines (drop-at (d .x) (l .line .body ++ d .y) (length (d .x)) refl)
           ∙ d .here
 
-      go : PlacedAt start (lines s) up l → tablesFrom (l .at .index) (tables kind on s) ≡ heads kind on (placed (l .at) (lines (drop (l .at .index) s)))
+      go : PlacedAt (firstPoint s) (lines (drop (firstStart s) s)) up l → tablesFrom (l .at .index) (tables kind on s) ≡ heads kind on (placed (l .at) (lines (drop (l .at .index) s)))
       go c =
-          rw (cut c (around (c .ls) s (l .line) (c .ms) (c .split)), c .split, c .here)
-          (past-heads start (c .ls) (l .line ∷ c .ms) (rw (c .above) at gap))
+          rw (cut c (around (c .ls) (drop (firstStart s) s) (l .line) (c .ms) (c .split)), c .split, c .here)
+          (past-heads (firstPoint s) (c .ls) (l .line ∷ c .ms) (rw (c .above) at gap))
 
   reading-from : (s : List ℕ) (a : ℕ) (u : Fresh kind s a) → tablesFrom a (tables kind on s) ≡ heads kind on (placed (u .from .line .at) (lines (drop a s)))
   reading-from s a u = let f = u .from in rw (sym (f .from)) (reading s (f .above) (f .line) (f .below) (f .split) (u .gap))
@@ -147,8 +151,15 @@ after-column p (l ∷ ls) h k = after-column (onward p l) ls refl refl
 
 from-column : (s : List ℕ) (a : ℕ) (u : LineFrom s a) → (u .line .at .column ≡ 1) × (u .line .at .vs ≡ 0)
 from-column s a u =
-    let c = placedAt start (lines s) (u .above) (u .line) (u .below) (u .split) in
-    rw (c .here) (after-column start (c .ls) refl refl)
+    let p = firstPoint s in
+    let c = placedAt p (lines (drop (firstStart s) s)) (u .above) (u .line) (u .below) (u .split) in
+    rw (c .here) (after-column p (c .ls) refl refl)
+
+-- the same lines from two points on have the same tables, moved as the points are
+same-tables : (kind : ℕ → ℕ) (on : Bool) {m n a b : ℕ} {p q : Point} → Shifted m n a b p q → (ls : List Line) → Each (SameTable (Shifted m n a b)) (heads kind on (placed p ls)) (heads kind on (placed q ls))
+same-tables kind on {m} {n} {a} {b} h ls =
+    each-weaken (λ f g k. record { raw = rawTable-alike _ (k .table); resolved = resolvedTable-alike _ (k .table); aligned = k .aligned })
+    (heads-alike kind _ (shifted-kept m n a b) on h ls)
 
 pub beyond : (kind : ℕ → ℕ) → Beyond kind
 beyond kind on s t a b u v e =
@@ -161,6 +172,9 @@ beyond kind on s t a b u v e =
       index = omega (arith, u .from .from, v .from .from);
       vs = c .1 ∙ sym (d .1);
     } in
-    rw (reading-from kind on s a u, reading-from kind on t b v, e)
-    (each-weaken (λ f g h. record { raw = rawTable-alike _ (h .table); resolved = resolvedTable-alike _ (h .table); aligned = h .aligned })
-    (heads-alike kind _ (shifted-kept (lineNumber s a) (lineNumber t b) a b) on here (lines (drop b t))))
+    rw (reading-from kind on s a u, reading-from kind on t b v, e) (same-tables kind on here (lines (drop b t)))
+
+pub bom-passed : (kind : ℕ → ℕ) → BomPassed kind
+bom-passed kind on s h =
+    let plain : tables kind on s ≡ heads kind on (placed start (lines s)) = ap (λ (i : ℕ). heads kind on (placed (pointIn 1 i 1) (lines (drop i s)))) (first-zero s h) in
+    rw plain (same-tables kind on {m = 1} {n = 1} {a = 3} {b = 0} {p = pointIn 1 3 1} (record { line = refl; column = refl; index = refl; vs = refl }) (lines s))

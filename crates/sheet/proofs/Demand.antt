@@ -2,7 +2,7 @@
 -- Assumes nothing.
 use Prim.Native.Nat.{ℕ}
 use Rattle.sheet.specs.Demands.{Demand}
-use Rattle.sheet.proofs.Beyond.{beyond}
+use Rattle.sheet.proofs.Beyond.{beyond, bom-passed}
 use Rattle.sheet.proofs.Exchange.{exchange}
 use Rattle.sheet.proofs.Counts.{counted}
 use Rattle.sheet.proofs.Pieces.{covered}
@@ -21,4 +21,5 @@ demand kind =
       told = told-aligned kind;
       walked = walked kind;
       unquoted = unquoted kind;
+      bomPassed = bom-passed kind;
     }

@@ -4,25 +4,28 @@ use Prim.Native.Nat.{ℕ, _+_, _≤_, _<_}
 use mathlib.Core.Path.{_≡_, refl, ap, ap₂, sym, _∙_}
 use mathlib.Core.List.{List, [], _∷_, _++_, List·Memᴰ, List·Memᴰ·not-nil, List·Memᴰ·cases-cons, head-eq-of-cons-eq}
 use mathlib.Core.Logic.{_⊎_, inl, inr, ⊎-elim}
-use mathlib.Core.Bool.{Bool, true, false, cond}
+use mathlib.Core.Bool.{Bool, true, false, cond, false≢true}
 use native.Mathlib.Omega.{arith}
-use lib.ListN.{length, take, drop}
-use lib.Seq.{take-at, drop-at}
+use lib.ListN.{length, take, drop, length-drop}
+use lib.Seq.{take-at, drop-at, drop-append-le}
+use borrow.Author.Tests.{eqb-false}
 use Rattle.tokenizer.specs.declared.event.Point.{Point}
 use Rattle.tokenizer.specs.declared.event.Event.{Event}
 use Rattle.tokenizer.specs.Points.{start, columnPast}
 use Rattle.tokenizer.specs.Events.{GfmTableRow, GfmTableDelimiterRow}
-use Rattle.tokenizer.specs.Lines.{Line, lines}
-use Rattle.tokenizer.specs.Places.{Placed, placed}
+use Rattle.tokenizer.specs.Lines.{Line, lines, firstStart}
+use Rattle.tokenizer.specs.Places.{Placed, placed, firstPoint}
 use Rattle.gfm_table.specs.Rows.{Piece, Row, rowPieces, delimiterPieces, rawRow}
+use Rattle.gfm_table.specs.Heads.{marked}
 use Rattle.gfm_table.specs.Raw.{rowAt, textRow}
+use Rattle.gfm_table.specs.Places.{pointIn}
 use Rattle.edit_map.specs.Tables.{BodyRow, rawTable, resolvedText, resolvedTable}
 use Rattle.sheet.specs.Walk.{Found, closes, opens, lineEnd, bodyRows, heads, rows, tables}
 use Rattle.sheet.specs.Demands.{Each, none, more, Alike, rowsIn, begins, plain, Moved, OtherRow, OtherRows, Exchange}
 use Rattle.sheet.proofs.Lists.{All, all-members, each-weaken, each-with, each-cond}
 use Rattle.sheet.proofs.Alike.{AlikeRow, rawRow-alike, resolvedText-alike, resolvedDelimiter-alike}
 use Rattle.sheet.proofs.Tests.{by-cases}
-use Rattle.sheet.proofs.Walks.{starting, onward, foundAt, Kept, AlikeFound, rest-alike, rows-alike}
+use Rattle.sheet.proofs.Walks.{starting, onward, foundAt, Kept, AlikeFound, rest-alike, rows-alike, opens-head}
 use Rattle.sheet.proofs.Split.{after, Around, around}
 use Rattle.sheet.proofs.Closing.{solid-length}
 use Rattle.sheet.proofs.Beyond.{after-le}
@@ -209,25 +212,71 @@ append-inj x u y v e n = (
   sym (drop-at x u (length y) n) ∙ ap (drop (length y)) e ∙ drop-at y v (length y) refl,
 )
 
+-- a delimiter row is not empty
+marked-length : (kind : ℕ → ℕ) (u : List ℕ) → marked kind u ≡ true → 0 < length u
+unfolding marked
+marked-length kind [] h = absurd (false≢true h)
+marked-length kind (b ∷ u) h = omega arith
+
+-- a head stands before a body line: at least three bytes
+way-long : {kind : ℕ → ℕ} {on : Bool} {ls : List Line} → Way kind on true ls → (p : Point) → p .index + 3 ≤ after p ls .index
+unfolding after
+way-long (prose {l = j} e w) p = omega (arith, way-long w (onward p j))
+way-long {kind} {on} (head {l = j} {d} {ls} e w) p =
+    let h = opens-head kind on (starting start j) (starting start d) e in
+    omega (arith, after-le ls (onward (onward p j) d), solid-length kind (j .body) (h .filled), marked-length kind (d .body) (h .marked), eqb-false (j .end) 0 (h .ended))
+
+-- they tell where the first line starts
+first-front : (x u v : List ℕ) → 3 ≤ length x → firstStart (x ++ u) ≡ firstStart (x ++ v)
+first-front [] u v h = absurd (omega arith)
+first-front (a ∷ []) u v h = absurd (omega arith)
+first-front (a ∷ b ∷ []) u v h = absurd (omega arith)
+first-front (a ∷ b ∷ c ∷ x) u v h = refl
+
 module _ (kind : ℕ → ℕ) (on : Bool) (x old new y : List ℕ) (r : BodyRow) (from : r .row .entry .index ≡ length x) (to : r .row .exit .index ≡ length x + length old)
     (p : plain new ≡ true) (solid : closes kind new ≡ false) where
-  lines-exchanged : (w : Located kind on true start (lines (x ++ (old ++ y))) r) → Around (x ++ (old ++ y)) (w .ls) (w .l) (w .ms)
-      → (old ≡ w .l .body) × (length x ≡ after start (w .ls) .index) × (lines (x ++ (new ++ y)) ≡ w .ls ++ record { body = new; end = w .l .end } ∷ w .ms)
-  lines-exchanged w c =
-      let size = c .size start in
-      let here : length x ≡ after start (w .ls) .index = sym from ∙ ap (λ (z : Row). z .entry .index) (w .row) in
-      let there = ap (λ (z : Row). z .exit .index) (w .row) in
-      let f = append-inj x (old ++ y) (c .x) (w .l .body ++ c .y) (c .whole) (omega arith) in
-      let g = append-inj old y (w .l .body) (c .y) (f .1) (omega arith) in
-      (g .0, here, ap₂ (λ (a b : List ℕ). lines (a ++ (new ++ b))) (f .0) (g .1) ∙ c .swap new p (solid-length kind new solid))
+  -- the two sheets, and where the first line starts
+  abbrev s : List ℕ
+  s = x ++ (old ++ y)
 
-  sheets-other : (w : Located kind on true start (lines (x ++ (old ++ y))) r)
-      → (length x ≡ after start (w .ls) .index) × Each (Pairs kind (after start (w .ls)) old new) (tables kind on (x ++ (old ++ y))) (tables kind on (x ++ (new ++ y)))
-  sheets-other w = go (lines-exchanged w (around (w .ls) (x ++ (old ++ y)) (w .l) (w .ms) (w .split)))
-    where
-      go : (old ≡ w .l .body) × (length x ≡ after start (w .ls) .index) × (lines (x ++ (new ++ y)) ≡ w .ls ++ record { body = new; end = w .l .end } ∷ w .ms)
-          → (length x ≡ after start (w .ls) .index) × Each (Pairs kind (after start (w .ls)) old new) (tables kind on (x ++ (old ++ y))) (tables kind on (x ++ (new ++ y)))
-      go h = (h .1, rw (h .2, w .split, h .0) (walk-other kind on (w .l) (record { body = new; end = w .l .end }) (w .ms) refl (w .solid) solid (w .way) start))
+  abbrev t : List ℕ
+  t = x ++ (new ++ y)
+
+  abbrev k : ℕ
+  k = firstStart s
+
+  lines-exchanged : (w : Located kind on true (firstPoint s) (lines (drop k s)) r) → Around (drop k s) (w .ls) (w .l) (w .ms)
+      → (old ≡ w .l .body) × (length x ≡ after (firstPoint s) (w .ls) .index) × (lines (drop k t) ≡ w .ls ++ record { body = new; end = w .l .end } ∷ w .ms) × (firstStart t ≡ k)
+  lines-exchanged w c =
+      let size = c .size (firstPoint s) in
+      let here : length x ≡ after (firstPoint s) (w .ls) .index = sym from ∙ ap (λ (z : Row). z .entry .index) (w .row) in
+      let there = ap (λ (z : Row). z .exit .index) (w .row) in
+      let long : 3 + k ≤ length x = omega (arith, way-long (w .way) (firstPoint s)) in
+      let front : (z : List ℕ) → drop k (x ++ z) ≡ drop k x ++ z = λ z. drop-append-le k x z (omega arith) in
+      let f = append-inj (drop k x) (old ++ y) (c .x) (w .l .body ++ c .y) (sym (front (old ++ y)) ∙ c .whole) (omega (arith, length-drop k x)) in
+      let g = append-inj old y (w .l .body) (c .y) (f .1) (omega arith) in (
+        g .0,
+        here,
+        ap lines (front (new ++ y)) ∙ ap₂ (λ (a b : List ℕ). lines (a ++ (new ++ b))) (f .0) (g .1) ∙ c .swap new p (solid-length kind new solid),
+        first-front x (new ++ y) (old ++ y) (omega arith),
+      )
+
+  tables-at : (u : List ℕ) (j : ℕ) → firstStart u ≡ j → tables kind on u ≡ heads kind on (placed (pointIn 1 j 1) (lines (drop j u)))
+  tables-at u j e = ap (λ (i : ℕ). heads kind on (placed (pointIn 1 i 1) (lines (drop i u)))) e
+
+  pairs-at : (fs gs : List Found) (q : Point) (ls ms : List Line) (l : Line) → Way kind on true ls → closes kind (l .body) ≡ false → fs ≡ heads kind on (placed q (ls ++ l ∷ ms))
+      → gs ≡ heads kind on (placed q (ls ++ record { body = new; end = l .end } ∷ ms)) → old ≡ l .body → Each (Pairs kind (after q ls) old new) fs gs
+  pairs-at fs gs q ls ms l w e a b o = rw (a, b, o) (walk-other kind on l (record { body = new; end = l .end }) ms refl e solid w q)
+
+  sheets-other : (w : Located kind on true (firstPoint s) (lines (drop k s)) r)
+      → (length x ≡ after (firstPoint s) (w .ls) .index) × Each (Pairs kind (after (firstPoint s) (w .ls)) old new) (tables kind on s) (tables kind on t)
+  sheets-other w =
+      let h = lines-exchanged w (around (w .ls) (drop k s) (w .l) (w .ms) (w .split)) in
+      let q = firstPoint s in (
+        h .1,
+        pairs-at (tables kind on s) (tables kind on t) q (w .ls) (w .ms) (w .l) (w .way) (w .solid) (ap (λ (z : List Line). heads kind on (placed q z)) (w .split))
+            (tables-at t k (h .3) ∙ ap (λ (z : List Line). heads kind on (placed q z)) (h .2)) (h .0),
+      )
 
 -- the rows among a table's events
 record Rowed (f : Found) : Type 0 where
@@ -286,7 +335,8 @@ pairs-rows h r s =
 
 pub exchange : (kind : ℕ → ℕ) → Exchange kind
 exchange kind on x old new y b p solid =
-    let w = heads-located kind on start (lines (x ++ (old ++ y))) (b .found) (b .row) (b .among) (b .within) in
+    let s = x ++ (old ++ y) in
+    let w = heads-located kind on (firstPoint s) (lines (drop (firstStart s) s)) (b .found) (b .row) (b .among) (b .within) in
     let k = sheets-other kind on x old new y (b .row) (b .from) (b .to) p solid w in
     rw (k .0)
     (each-weaken (λ f g h. pairs-rows (h .0) (h .1) (h .2))

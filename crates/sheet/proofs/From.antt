@@ -10,10 +10,10 @@ use lib.Dec.{eqb, ltb}
 use lib.ListN.{length, drop}
 use Rattle.tokenizer.specs.declared.event.Point.{Point}
 use Rattle.tokenizer.specs.Bytes.{kindOf}
-use Rattle.tokenizer.specs.Points.{start}
 use Rattle.tokenizer.specs.Lines.{lineBody, endAt}
-use Rattle.tokenizer.specs.Places.{Placed, linesFrom, linesPast}
+use Rattle.tokenizer.specs.Places.{Placed, linesFrom, linesPast, firstPoint}
 use Rattle.tokenizer.specs.Moves.{restOf, lineAt, after, Inside}
+use Rattle.tokenizer.proofs.Starts.{first-within}
 use Rattle.tokenizer.proofs.Places.{lines-from}
 use Rattle.tokenizer.proofs.Ends.{end-past, body-inside, after-inside}
 use Rattle.gfm_table.specs.Rows.{rowPieces}
@@ -26,8 +26,8 @@ use Rattle.sheet.specs.Walk.{closes, opens, found, heads, rows}
 use Rattle.sheet.specs.From.{AtLine, columnsIf, columnsOf, Opens, here}
 
 -- a sheet starts with a line
-pub start-line : (s : List ℕ) → length s ≤ 65536 → AtLine s start
-start-line s h = record { inside = record { short = h; within = omega arith; narrow = omega arith; lined = omega arith; flat = refl }; first = refl }
+pub start-line : (s : List ℕ) → length s ≤ 65536 → AtLine s (firstPoint s)
+start-line s h = record { inside = record { short = h; within = first-within s .0; narrow = omega arith; lined = omega arith; flat = refl }; first = refl }
 
 -- ## A line that ends a table is no head
 

@@ -5,10 +5,10 @@ use mathlib.Core.Path.{_≡_, refl, ap}
 use mathlib.Core.List.{List, [], _∷_, _++_, List·Memᴰ, List·Memᴰ·not-nil, List·Memᴰ·cases-cons}
 use mathlib.Core.Logic.{⊎-elim}
 use mathlib.Core.Bool.{Bool}
+use lib.ListN.{drop}
 use Rattle.tokenizer.specs.declared.event.Point.{Point}
-use Rattle.tokenizer.specs.Points.{start}
-use Rattle.tokenizer.specs.Lines.{Line, lines}
-use Rattle.tokenizer.specs.Places.{Placed, placed}
+use Rattle.tokenizer.specs.Lines.{Line, lines, firstStart}
+use Rattle.tokenizer.specs.Places.{Placed, placed, firstPoint}
 use Rattle.sheet.specs.Walk.{Found, closes, opens, heads, rows, tables}
 use Rattle.sheet.proofs.Tests.{by-cases}
 use Rattle.sheet.proofs.Walks.{starting, onward, foundAt, Head, opens-head}
@@ -60,5 +60,5 @@ module _ (kind : ℕ → ℕ) (on : Bool) where
         by-cases (λ z. List·Memᴰ f z → HeadAt p (l ∷ all) f) (closes kind (l .body))
         (λ e k. under l (heads-headed (onward p l) all f k)) (λ e k. under l (rows-headed (onward p l) all f k)) i
 
-  pub headed : (s : List ℕ) (f : Found) → List·Memᴰ f (tables kind on s) → HeadAt start (lines s) f
-  headed s f m = heads-headed start (lines s) f m
+  pub headed : (s : List ℕ) (f : Found) → List·Memᴰ f (tables kind on s) → HeadAt (firstPoint s) (lines (drop (firstStart s) s)) f
+  headed s f m = heads-headed (firstPoint s) (lines (drop (firstStart s) s)) f m

@@ -1,4 +1,4 @@
--- The hypotheses of demand 3 can be met. Remarks read by computing.
+-- The hypotheses of demand 3 can be met. Remarks and marked sheets read by computing.
 -- Assumes nothing.
 use Prim.Native.Nat.{ℕ}
 use mathlib.Core.Path.{_≡_, refl}
@@ -8,6 +8,7 @@ use lib.ListN.{length}
 use Rattle.tokenizer.specs.Bytes.{kindOf}
 use Rattle.tokenizer.specs.Points as Points
 use Rattle.tokenizer.specs.Lines as Lines
+use Rattle.tokenizer.specs.Lines.{startsLine}
 use Rattle.tokenizer.specs.Places as Places
 use Rattle.gfm_table.specs.Rows as Rows
 use Rattle.gfm_table.specs.Heads as Heads
@@ -53,3 +54,39 @@ remark-read :
     × (bodies (tables kindOf false (62 ∷ table)) ≡ [])
 unfolding kindOf Points.columnPast Points.columnAfter Lines.lines Lines.indent Lines.unindented Places.placed Rows.rowPieces Rows.delimiterPieces Rows.passed Heads.solid Heads.dividers Heads.trailing Heads.stretches Heads.untailed Heads.trimmed Heads.untrailed Heads.hyphens Heads.allValues Heads.marked Heads.alignments Walk.closes Walk.heads Walk.bodyRows bodies
 remark-read = (refl, refl, refl, refl)
+
+-- the byte order mark
+abbrev bom : List ℕ
+bom = 239 ∷ 187 ∷ 191 ∷ []
+
+-- behind it line 1 starts at offset 3; offsets 0 to 2 start no line; a second one, or two of its bytes, are data
+bom-starts :
+    (startsLine (bom ++ table) 0 ≡ false)
+    × (startsLine (bom ++ table) 1 ≡ false)
+    × (startsLine (bom ++ table) 2 ≡ false)
+    × (startsLine (bom ++ table) 3 ≡ true)
+    × (startsLine (bom ++ table) 7 ≡ true)
+    × (startsLine bom 3 ≡ true)
+    × (startsLine (bom ++ bom) 6 ≡ false)
+    × (startsLine (239 ∷ 187 ∷ table) 0 ≡ true)
+unfolding Lines.endsBefore
+bom-starts = (refl, refl, refl, refl, refl, refl, refl, refl)
+
+-- no line stands before the first one; behind a blank line a mark is the beginning of a line
+fresh-first : Fresh kindOf (bom ++ table) 3
+unfolding kindOf Lines.lines Lines.endsWithin Lines.unindented Places.placed blankLast
+fresh-first = record { from = record { above = []; line = _; below = _; split = refl; from = refl; number = refl }; gap = refl }
+
+fresh-later : Fresh kindOf (10 ∷ bom) 1
+unfolding kindOf Lines.lines Lines.endsWithin Lines.unindented Places.placed blankLast
+fresh-later = record { from = record { above = _ ∷ []; line = _; below = []; split = refl; from = refl; number = refl }; gap = refl }
+
+-- the tables of a sheet, each by the index and the column where its head line begins
+unfoldable starts : List Found → List (ℕ × ℕ)
+starts [] = []
+starts (f ∷ fs) = (f .table .entry .index, f .table .entry .column) ∷ starts fs
+
+-- the table behind it, and where its head line begins; a remark behind it
+bom-read : (starts (tables kindOf true (bom ++ table)) ≡ (3, 1) ∷ []) × (starts (tables kindOf true (bom ++ (62 ∷ table))) ≡ [])
+unfolding kindOf Points.columnPast Points.columnAfter Lines.lines Lines.indent Lines.unindented Places.placed Rows.rowPieces Rows.delimiterPieces Rows.passed Heads.solid Heads.dividers Heads.trailing Heads.stretches Heads.untailed Heads.trimmed Heads.untrailed Heads.hyphens Heads.allValues Heads.marked Heads.alignments Walk.closes Walk.heads Walk.bodyRows starts
+bom-read = (refl, refl)

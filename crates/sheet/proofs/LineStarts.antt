@@ -6,11 +6,12 @@ use mathlib.Core.List.{List, [], _∷_, _++_, head-eq-of-cons-eq}
 use mathlib.Core.Bool.{Bool, true, false, true≢false, false≢true}
 use native.Mathlib.Omega.{arith}
 use lib.Dec.{eqb}
-use lib.ListN.{length}
+use lib.ListN.{length, drop}
+use borrow.Author.Tests.{eqb-true}
 use Rattle.tokenizer.specs.declared.event.Point.{Point}
-use Rattle.tokenizer.specs.Points.{start}
-use Rattle.tokenizer.specs.Lines.{Line, lines, startsLF, emptyLine, endsLine, startsLine, endsWithin}
-use Rattle.tokenizer.specs.Places.{Placed, placed}
+use Rattle.tokenizer.specs.Lines.{Line, lines, startsLF, emptyLine, firstStart, endsLine, endsBefore, startsLine, endsWithin}
+use Rattle.tokenizer.specs.Places.{Placed, placed, firstPoint}
+use Rattle.tokenizer.proofs.Starts.{Bom, bom}
 use Rattle.sheet.specs.Demands.{Starts}
 use Rattle.sheet.proofs.Tests.{test}
 use Rattle.sheet.proofs.Walks.{starting, onward}
@@ -95,14 +96,52 @@ joined b u a e r = go (r .ls) (r .split) (r .size) (r .count)
         let g = longer b u k (ls ++ r .l ∷ r .ms) e f in
         record { ls = g .j ∷ ls; l = r .l; ms = r .ms; split = g .split; size = omega (arith, g .size); count = rw e (omega arith) }
 
-starts-lines : (s : List ℕ) (a : ℕ) → startsLine s a ≡ true → LinesAt s a
-unfolding startsLine
-starts-lines s zero h = first s
-starts-lines [] (suc a) h = absurd (false≢true h)
-starts-lines (b ∷ u) (suc zero) h = ended b u 0 h (first u)
-starts-lines (b ∷ u) (suc (suc a)) h =
-    let r = starts-lines u (suc a) h in
+before-lines : (s : List ℕ) (a : ℕ) → endsBefore s a ≡ true → LinesAt s a
+unfolding endsBefore
+before-lines s zero h = absurd (false≢true h)
+before-lines [] (suc a) h = absurd (false≢true h)
+before-lines (b ∷ u) (suc zero) h = ended b u 0 h (first u)
+before-lines (b ∷ u) (suc (suc a)) h =
+    let r = before-lines u (suc a) h in
     test (endsLine b u) (λ e. ended b u (suc a) e r) (λ e. joined b u a e r)
+
+-- ## With a byte order mark or without
+
+-- the lines of a sheet, from the first one on, up to offset a
+record LinesTo (s : List ℕ) (a : ℕ) : Type 0 where
+  ls : List Line
+  l : Line
+  ms : List Line
+  split : lines (drop (firstStart s) s) ≡ ls ++ l ∷ ms
+  size : firstStart s + bytes ls ≡ a
+  count : length ls ≡ endsWithin a s
+
+plain-to : (s : List ℕ) (a : ℕ) → firstStart s ≡ 0 → LinesAt s a → LinesTo s a
+plain-to s a e r = record { ls = r .ls; l = r .l; ms = r .ms; split = ap (λ (k : ℕ). lines (drop k s)) e ∙ r .split; size = omega (arith, r .size); count = r .count }
+
+-- no line ends within the mark
+bom-to : (u : List ℕ) (a : ℕ) → LinesAt u a → LinesTo (239 ∷ 187 ∷ 191 ∷ u) (suc (suc (suc a)))
+unfolding endsWithin
+bom-to u a r = record { ls = r .ls; l = r .l; ms = r .ms; split = r .split; size = omega (arith, r .size); count = omega (arith, r .count) }
+
+bom-lines : (u : List ℕ) (a : ℕ) → endsBefore (239 ∷ 187 ∷ 191 ∷ u) a ≡ true → LinesTo (239 ∷ 187 ∷ 191 ∷ u) a
+unfolding endsBefore
+bom-lines u zero h = absurd (false≢true h)
+bom-lines u (suc zero) h = absurd (false≢true h)
+bom-lines u (suc (suc zero)) h = absurd (false≢true h)
+bom-lines u (suc (suc (suc zero))) h = absurd (false≢true h)
+bom-lines u (suc (suc (suc (suc a)))) h = bom-to u (suc a) (before-lines u (suc a) h)
+
+starts-lines : (s : List ℕ) (a : ℕ) → startsLine s a ≡ true → LinesTo s a
+starts-lines s a h = go s (bom s) h
+  where
+    go : (s : List ℕ) → Bom s → startsLine s a ≡ true → LinesTo s a
+    go s (Bom.with u) h =
+        test (eqb a 3) (λ f. rw (eqb-true a 3 f) (bom-to u 0 (first u)))
+        (λ f. bom-lines u a (rw f at h))
+    go s (Bom.without _ e) h =
+        test (eqb a (firstStart s)) (λ f. plain-to s a e (rw (eqb-true a (firstStart s) f ∙ e) (first s)))
+        (λ f. plain-to s a e (before-lines s a (rw f at h)))
 
 -- the same among placed lines
 placed-append : (p : Point) (ls : List Line) (l : Line) (ms : List Line) → placed p (ls ++ l ∷ ms) ≡ placed p ls ++ starting (after p ls) l ∷ placed (onward (after p ls) l) ms
@@ -118,12 +157,13 @@ after-size p (l ∷ ls) = let h = after-size (onward p l) ls in (omega (arith, h
 pub starts : Starts
 starts s a h =
     let r = starts-lines s a h in
-    let z = after-size start (r .ls) in
+    let p = firstPoint s in
+    let z = after-size p (r .ls) in
     record {
-      above = placed start (r .ls);
-      line = starting (after start (r .ls)) (r .l);
+      above = placed p (r .ls);
+      line = starting (after p (r .ls)) (r .l);
       below = _;
-      split = ap (placed start) (r .split) ∙ placed-append start (r .ls) (r .l) (r .ms);
+      split = ap (placed p) (r .split) ∙ placed-append p (r .ls) (r .l) (r .ms);
       from = omega (arith, z .0, r .size);
       number = omega (arith, z .1, r .count);
     }

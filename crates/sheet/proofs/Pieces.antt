@@ -8,10 +8,11 @@ use mathlib.Core.Bool.{Bool}
 use native.Mathlib.Omega.{arith}
 use Rattle.tokenizer.specs.declared.event.Point.{Point}
 use Rattle.tokenizer.specs.declared.event.Event.{Event}
-use Rattle.tokenizer.specs.Points.{past, start}
+use lib.ListN.{drop}
+use Rattle.tokenizer.specs.Points.{past}
 use Rattle.tokenizer.specs.Events.{GfmTableRow, GfmTableDelimiterRow, leave}
-use Rattle.tokenizer.specs.Lines.{Line, lines}
-use Rattle.tokenizer.specs.Places.{Placed, placed}
+use Rattle.tokenizer.specs.Lines.{Line, lines, firstStart}
+use Rattle.tokenizer.specs.Places.{Placed, placed, firstPoint}
 use Rattle.edit_map.specs.Tables.{Table, rawTable, resolvedTable, lastExit}
 use Rattle.sheet.specs.Walk.{Found, closes, opens, bodyRows, heads, rows, tables, rawOf, resolvedOf}
 use Rattle.sheet.specs.Demands.{holding, lastEnd, Covers, Covered}
@@ -77,7 +78,7 @@ spread-tiles f (next h t r) m = ⊎-elim (λ e. rw e t) (λ n. spread-tiles f r 
 pub covered : (kind : ℕ → ℕ) (on : Bool) (s : List ℕ) (f : Found) → List·Memᴰ f (tables kind on s) → Covered (tables kind on s) (f .table)
 unfolding rawOf resolvedOf
 covered kind on s f m =
-    let r = heads-spread kind on 0 start (lines s) (omega arith) in
+    let r = heads-spread kind on 0 (firstPoint s) (lines (drop (firstStart s) s)) (omega arith) in
     let t = spread-tiles f r m in
     record {
       raw = λ i. tiles-hold i (t .raw);

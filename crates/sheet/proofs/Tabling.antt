@@ -12,10 +12,9 @@ use lib.ListN.{length, length-append}
 use lib.WfN.{Nat·lt-wfRel}
 use Rattle.tokenizer.specs.declared.event.Event.{Event}
 use Rattle.tokenizer.specs.Slots.{wrote}
-use Rattle.tokenizer.specs.Places.{linesFrom}
+use Rattle.tokenizer.specs.Places.{linesFrom, firstPoint}
 use Rattle.tokenizer.specs.Bytes.{kindOf}
 use Rattle.tokenizer.specs.Moves.{after}
-use Rattle.tokenizer.specs.Points.{start}
 use Rattle.tokenizer.proofs.Writing.{wrote-none, wrote-append}
 use Rattle.edit_map.specs.Tables.{Table, rawTable, resolvedTable}
 use Rattle.sheet.specs.declared.spans.Span.{Span}
@@ -70,7 +69,7 @@ module _ (s : List ℕ) (on : Bool) where
     where
       go : (t : Bool) → ltb 65536 (length s) ≡ t → tally (cond t [] (tables kindOf on s)) ≤ 1000000
       go true e = omega arith
-      go false e = omega (arith, from-tally s on start, ltb-false 65536 (length s) e)
+      go false e = omega (arith, from-tally s on (firstPoint s), ltb-false 65536 (length s) e)
 
 -- there are at most twice as many result events
 results-few : (fs : List Found) → length (resolvedOf fs) ≤ 2 * length (rawOf fs)

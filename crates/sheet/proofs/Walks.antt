@@ -111,6 +111,7 @@ module _ (kind : ℕ → ℕ) (R : Point → Point → Type 0) (K : Kept R) wher
 -- what is known of them
 pub record Head (kind : ℕ → ℕ) (on : Bool) (l d : Line) : Type 0 where
   pub filled : closes kind (l .body) ≡ false
+  pub ended : eqb (l .end) 0 ≡ false
   pub solid : loneDivider (solid (rowPieces kind false (l .body))) ≡ false
   pub marked : marked kind (d .body) ≡ true
   pub some : 0 < length (values kind (d .body))
@@ -133,6 +134,7 @@ opens-head kind on l d e =
     let v = both-true (ltb 0 (length (values kind u))) _ (m .1) in
     record {
       filled = not-true _ (o .0);
+      ended = either-false (eqb (l .line .end) 0) _ (f .0) .0;
       solid = either-false (eqb (l .line .end) 0) _ (f .0) .1;
       marked = m .0;
       some = ltb-true 0 _ (v .0);

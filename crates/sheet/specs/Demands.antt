@@ -42,7 +42,7 @@ pub record LineFrom (s : List ℕ) (a : ℕ) : Type 0 where
   pub from : line .at .index ≡ a
   pub number : line .at .line ≡ lineNumber s a
 
--- a line starts at offset 0 and after each line end
+-- a line starts where the first one does and after each line end
 abbrev pub Starts : Type 0
 Starts = (s : List ℕ) (a : ℕ) → startsLine s a ≡ true → LineFrom s a
 
@@ -82,6 +82,10 @@ abbrev pub Beyond : (ℕ → ℕ) → Type 0
 Beyond kind =
     (on : Bool) (s t : List ℕ) (a b : ℕ) → Fresh kind s a → Fresh kind t b → drop a s ≡ drop b t
     → Each (SameTable (Shifted (lineNumber s a) (lineNumber t b) a b)) (tablesFrom a (tables kind on s)) (tablesFrom b (tables kind on t))
+
+-- a byte order mark before a sheet whose first line starts at 0: the same tables, moved by its three bytes
+abbrev pub BomPassed : (ℕ → ℕ) → Type 0
+BomPassed kind = (on : Bool) (s : List ℕ) → startsLine s 0 ≡ true → Each (SameTable (Shifted 1 1 3 0)) (tables kind on (239 ∷ 187 ∷ 191 ∷ s)) (tables kind on s)
 
 -- ## Rows
 
@@ -274,3 +278,4 @@ pub record Demand (kind : ℕ → ℕ) : Type 0 where
   pub told : Told kind
   pub walked : Walked kind
   pub unquoted : Unquoted kind
+  pub bomPassed : BomPassed kind

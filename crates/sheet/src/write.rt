@@ -6,6 +6,7 @@ use crate::spans::Where;
 use crate::spans::table_from;
 use crate::tables::raw_table;
 use tokenizer::event::Event;
+use tokenizer::lines::first_point;
 ghost use mathlib.Core.Path.{_≡_};
 ghost use Prim.Native.Nat.{_≤_, _<_, _+_};
 ghost use lib.ListN.{length};
@@ -39,7 +40,15 @@ pub fn first_span(s: &[u8], on: bool) -> Span
     if 65536 < s.len() {
         return Span::NONE;
     }
-    table_from(s, on, Where { line: 1, at: 0 })
+    let p = first_point(s);
+    table_from(
+        s,
+        on,
+        Where {
+            line: p.line,
+            at: p.index,
+        },
+    )
 }
 
 // Before the first table.

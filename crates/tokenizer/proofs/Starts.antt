@@ -2,32 +2,120 @@
 -- Assumes nothing.
 use Prim.Native.Nat.{ℕ, zero, suc, _+_, _-_, _≤_, _<_}
 use mathlib.Core.Path.{_≡_, refl, ap, sym, _∙_}
-use mathlib.Core.Bool.{Bool, true, false, cond}
+use mathlib.Core.Bool.{Bool, true, false, cond, _&&_, false≢true}
 use mathlib.Core.List.{List, [], _∷_}
 use native.Mathlib.Nat.{add-zero, zero-add, add-assoc, not-suc-le-zero, le-of-suc-le-suc}
 use native.Mathlib.Numerals.{add-one, sub-one}
 use native.Mathlib.Omega.{arith}
 use lib.ListN.{length, drop, getD}
-use Rattle.tokenizer.specs.Lines.{endsLine, startsLine, endsWithin}
+use borrow.Author.Tests.{eqb-true, ne-eqb}
+use lib.Dec.{eqb}
+use Rattle.tokenizer.specs.Lines.{firstStart, endsLine, endsBefore, startsLine, endsWithin, lineNumber}
+
+-- ## The first line
+
+-- a sheet with a byte order mark, or without
+pub data Bom : List ℕ → Type 0 where
+  with : (u : List ℕ) → Bom (239 ∷ 187 ∷ 191 ∷ u)
+  without : (s : List ℕ) → firstStart s ≡ 0 → Bom s
+
+pub bom : (s : List ℕ) → Bom s
+bom [] = without [] refl
+bom (a ∷ []) = without _ refl
+bom (a ∷ b ∷ []) = without _ refl
+bom (a ∷ b ∷ c ∷ u) = go (eqb a 239) (eqb b 187) (eqb c 191) refl refl refl
+  where
+    go : (x y z : Bool) → eqb a 239 ≡ x → eqb b 187 ≡ y → eqb c 191 ≡ z → Bom (a ∷ b ∷ c ∷ u)
+    go true true true e f g = rw (eqb-true a 239 e, eqb-true b 187 f, eqb-true c 191 g) (with u)
+    go true true false e f g = without (a ∷ b ∷ c ∷ u) (rw (e, f, g))
+    go true false z e f g = without (a ∷ b ∷ c ∷ u) (rw (e, f))
+    go false y z e f g = without (a ∷ b ∷ c ∷ u) (rw e)
+
+-- within the sheet, and at 3 at most
+pub first-within : (s : List ℕ) → (firstStart s ≤ length s) × (firstStart s ≤ 3)
+first-within s = go s (bom s)
+  where
+    go : (s : List ℕ) → Bom s → (firstStart s ≤ length s) × (firstStart s ≤ 3)
+    go s (Bom.with u) = (omega arith, omega arith)
+    go s (Bom.without _ e) = (omega (arith, e), omega (arith, e))
+
+-- where a line starts at 0, it is the first
+pub first-zero : (s : List ℕ) → startsLine s 0 ≡ true → firstStart s ≡ 0
+unfolding endsBefore
+first-zero s h = go s (bom s) h
+  where
+    go : (s : List ℕ) → Bom s → startsLine s 0 ≡ true → firstStart s ≡ 0
+    go s (Bom.with u) h = absurd (false≢true h)
+    go s (Bom.without _ e) h = e
+
+-- it starts at 0 in few bytes, and otherwise as the first three say
+pub first-few : (s : List ℕ) → length s < 3 → firstStart s ≡ 0
+first-few [] h = refl
+first-few (a ∷ []) h = refl
+first-few (a ∷ b ∷ []) h = refl
+first-few (a ∷ b ∷ c ∷ u) h = absurd (omega arith)
+
+first-three : (s : List ℕ) → 3 ≤ length s → firstStart s ≡ cond (eqb (getD s 0 0) 239 && (eqb (getD s 1 0) 187 && eqb (getD s 2 0) 191)) 3 0
+first-three [] h = absurd (omega arith)
+first-three (a ∷ []) h = absurd (omega arith)
+first-three (a ∷ b ∷ []) h = absurd (omega arith)
+first-three (a ∷ b ∷ c ∷ u) h = refl
+
+module _ (s : List ℕ) (h : 3 ≤ length s) where
+  pub first-other : (getD s 0 0 ≡ 239 → ⊥) → firstStart s ≡ 0
+  first-other z = first-three s h ∙ rw (ne-eqb (getD s 0 0) 239 z)
+
+  module _ (a : getD s 0 0 ≡ 239) where
+    pub first-second : (getD s 1 0 ≡ 187 → ⊥) → firstStart s ≡ 0
+    first-second z = first-three s h ∙ rw (a, ne-eqb (getD s 1 0) 187 z)
+
+    module _ (b : getD s 1 0 ≡ 187) where
+      pub first-third : (getD s 2 0 ≡ 191 → ⊥) → firstStart s ≡ 0
+      first-third z = first-three s h ∙ rw (a, b, ne-eqb (getD s 2 0) 191 z)
+
+      pub first-marked : getD s 2 0 ≡ 191 → firstStart s ≡ 3
+      first-marked c = first-three s h ∙ rw (a, b, c)
+
+-- no line ends within the mark: line numbers behind it count from the first line
+pub bom-number : (u : List ℕ) (i : ℕ) → lineNumber (239 ∷ 187 ∷ 191 ∷ u) (suc (suc (suc i))) ≡ lineNumber u i
+unfolding endsWithin
+bom-number u i = omega arith
+
+-- ## Line starts
+
+-- no line end is past the end
+before-far : (u : List ℕ) (i : ℕ) → length u < i → endsBefore u i ≡ false
+unfolding endsBefore
+before-far u zero h = refl
+before-far [] (suc i) h = refl
+before-far (b ∷ u) (suc zero) h = absurd (not-suc-le-zero (le-of-suc-le-suc h))
+before-far (b ∷ u) (suc (suc i)) h = before-far u (suc i) (le-of-suc-le-suc h)
 
 -- no line starts past the end
 pub starts-far : (u : List ℕ) (i : ℕ) → length u < i → startsLine u i ≡ false
-unfolding startsLine
-starts-far u zero h = absurd (not-suc-le-zero h)
-starts-far [] (suc i) h = refl
-starts-far (b ∷ u) (suc zero) h = absurd (not-suc-le-zero (le-of-suc-le-suc h))
-starts-far (b ∷ u) (suc (suc i)) h = starts-far u (suc i) (le-of-suc-le-suc h)
+starts-far u i h = rw (ne-eqb i (firstStart u) (λ e. omega (arith, first-within u .0)), before-far u i h)
 
--- a line starts behind offset i where the byte there ends one
-from : (u : List ℕ) (i : ℕ) → i < length u → startsLine u (suc i) ≡ endsLine (getD u i 0) (drop (suc i) u)
-unfolding startsLine
+-- a line ends before an offset where the byte there ends one
+from : (u : List ℕ) (i : ℕ) → i < length u → endsBefore u (suc i) ≡ endsLine (getD u i 0) (drop (suc i) u)
+unfolding endsBefore
 from [] i h = absurd (not-suc-le-zero h)
 from (b ∷ u) zero h = refl
 from (b ∷ u) (suc i) h = from u i (le-of-suc-le-suc h)
 
-pub starts-at : (u : List ℕ) (i : ℕ) → (i ≡ 0 → ⊥) → i ≤ length u → startsLine u i ≡ endsLine (getD u (i - 1) 0) (drop i u)
-starts-at u zero z h = absurd (z refl)
-starts-at u (suc i) z h = rw sub-one (from u i h)
+module _ (u : List ℕ) (i : ℕ) (z : i ≡ firstStart u → ⊥) where
+  starts-before : startsLine u i ≡ endsBefore u i
+  starts-before = rw (ne-eqb i (firstStart u) z)
+
+  pub starts-none : i ≡ 0 → startsLine u i ≡ false
+  unfolding endsBefore
+  starts-none e = starts-before ∙ ap (endsBefore u) e
+
+  pub starts-at : (i ≡ 0 → ⊥) → i ≤ length u → startsLine u i ≡ endsLine (getD u (i - 1) 0) (drop i u)
+  starts-at n h = starts-before ∙ go i n h
+    where
+      go : (j : ℕ) → (j ≡ 0 → ⊥) → j ≤ length u → endsBefore u j ≡ endsLine (getD u (j - 1) 0) (drop j u)
+      go zero n h = absurd (n refl)
+      go (suc j) n h = rw sub-one (from u j h)
 
 -- one more byte, one more line end if it ends a line
 more : (n : ℕ) (u : List ℕ) → n < length u → endsWithin (suc n) u ≡ endsWithin n u + cond (endsLine (getD u n 0) (drop (suc n) u)) 1 0

@@ -56,16 +56,27 @@ lines (b ∷ u) =
 
 -- ## Line starts and line numbers
 
+-- where the first line starts: behind a byte order mark, the bytes EF BB BF, otherwise at 0
+abbrev pub firstStart : List ℕ → ℕ
+firstStart [] = 0
+firstStart (a ∷ []) = 0
+firstStart (a ∷ b ∷ []) = 0
+firstStart (a ∷ b ∷ c ∷ u) = cond (eqb a 239 && (eqb b 187 && eqb c 191)) 3 0
+
 -- whether a line end is complete with the byte b, where u follows
 abbrev pub endsLine : ℕ → List ℕ → Bool
 endsLine b u = eqb b 10 || (eqb b 13 && not (startsLF u))
 
--- whether a line starts at an offset: at 0, and after each line end
-unfoldable pub startsLine : List ℕ → ℕ → Bool
-startsLine u zero = true
-startsLine [] (suc i) = false
-startsLine (b ∷ u) (suc zero) = endsLine b u
-startsLine (b ∷ u) (suc (suc i)) = startsLine u (suc i)
+-- whether a line end is complete right before an offset
+unfoldable pub endsBefore : List ℕ → ℕ → Bool
+endsBefore u zero = false
+endsBefore [] (suc i) = false
+endsBefore (b ∷ u) (suc zero) = endsLine b u
+endsBefore (b ∷ u) (suc (suc i)) = endsBefore u (suc i)
+
+-- whether a line starts at an offset: where the first one does, and after each line end
+abbrev pub startsLine : List ℕ → ℕ → Bool
+startsLine s i = eqb i (firstStart s) || endsBefore s i
 
 -- how many line ends are complete within the first n bytes
 unfoldable pub endsWithin : ℕ → List ℕ → ℕ

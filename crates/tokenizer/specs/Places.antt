@@ -6,7 +6,7 @@ use lib.Dec.{eqb}
 use lib.ListN.{drop}
 use Rattle.tokenizer.specs.declared.event.Point.{Point}
 use Rattle.tokenizer.specs.Points.{start, past, nextLine}
-use Rattle.tokenizer.specs.Lines.{Line, lines}
+use Rattle.tokenizer.specs.Lines.{Line, lines, firstStart}
 use Rattle.tokenizer.specs.Moves.{lineAt, after}
 
 -- a line and the point where it starts
@@ -23,13 +23,17 @@ unfoldable pub placed : Point → List Line → List Placed
 placed p [] = []
 placed p (l ∷ ls) = record { at = p; line = l } ∷ placed (nextLine (past p (l .body)) (l .end)) ls
 
--- the lines of a sheet
-abbrev pub placedLines : List ℕ → List Placed
-placedLines s = placed start (lines s)
-
 -- the lines from the one that starts at a point on
 abbrev pub linesFrom : List ℕ → Point → List Placed
 linesFrom s p = placed p (lines (drop (p .index) s))
+
+-- the first point of a sheet: the start value, moved to where the first line starts
+abbrev pub firstPoint : List ℕ → Point
+firstPoint s = record { line = start .line; column = start .column; index = firstStart s; vs = start .vs }
+
+-- the lines of a sheet
+abbrev pub placedLines : List ℕ → List Placed
+placedLines s = linesFrom s (firstPoint s)
 
 -- the lines after the one that a point is in
 abbrev pub linesPast : List ℕ → Point → List Placed

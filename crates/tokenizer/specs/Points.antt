@@ -6,7 +6,7 @@ use lib.Dec.{eqb}
 use lib.ListN.{length}
 use Rattle.tokenizer.specs.declared.event.Point.{Point}
 
--- the first point of a sheet
+-- the start value of a point
 abbrev pub start : Point
 start = record { line = 1; column = 1; index = 0; vs = 0 }
 

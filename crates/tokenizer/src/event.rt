@@ -75,7 +75,7 @@ impl Point {
     // The most units that a head may be indented by, where indented code is on.
     pub const INDENT_CAP: usize = 3;
 
-    // The first point of a sheet.
+    // The start value.
     pub fn start() -> Self
         ensures { λ r. ⌜ r ≡ start ⌝ }
     {

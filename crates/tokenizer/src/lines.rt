@@ -7,7 +7,8 @@ ghost use mathlib.Core.Path.{_≡_};
 ghost use Prim.Native.Nat.{_≤_, _+_};
 ghost use lib.ListN.{length, drop};
 ghost use Rattle.tokenizer.specs.Bytes.{kindOf};
-ghost use Rattle.tokenizer.specs.Lines.{startsLF, lineBody, endAt, endsLine, startsLine, lineNumber, blank};
+ghost use Rattle.tokenizer.specs.Lines.{startsLF, lineBody, endAt, firstStart, endsLine, startsLine, lineNumber, blank};
+ghost use Rattle.tokenizer.specs.Places.{firstPoint};
 ghost use Rattle.tokenizer.specs.Moves.{Inside, restOf};
 
 // Whether a line feed stands at a place.
@@ -75,12 +76,46 @@ pub fn ends_line(s: &[u8], b: u8, at: usize) -> bool
     false
 }
 
-// Whether a line starts at an offset.
+// Where the first line starts: behind a byte order mark, or at 0.
+pub fn first_start(s: &[u8]) -> usize
+    ensures { λ r. ⌜ r ≡ firstStart (now (s .entry)) ⌝ }
+{
+    if s.len() < 3 {
+        return 0;
+    }
+    if s[0] == 239 {
+        if s[1] == 187 {
+            if s[2] == 191 {
+                return 3;
+            }
+        }
+    }
+    0
+}
+
+// The first point of a sheet: the start value, moved by a byte order mark.
+pub fn first_point(s: &[u8]) -> Point
+    ensures { λ r. ⌜ r ≡ firstPoint (now (s .entry)) ⌝ }
+{
+    let p = Point::start();
+    let at = first_start(s) as u32;
+    Point {
+        line: p.line,
+        column: p.column,
+        index: at,
+        vs: p.vs,
+    }
+}
+
+// Whether a line starts at an offset: at the first line's start, or behind a line end.
 pub fn starts_line(s: &[u8], at: usize) -> bool
     ensures { λ r. ⌜ r ≡ startsLine (now (s .entry)) at ⌝ }
 {
-    if at == 0 {
+    if at == first_start(s) {
         return true;
+    }
+    if at == 0 {
+        return false;
     }
     if s.len() < at {
         return false;

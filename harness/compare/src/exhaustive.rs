@@ -2,6 +2,7 @@
 
 use crate::asks;
 use crate::tally::Tally;
+use harness::bom::BOM;
 use harness::kept::lists::{self, pair};
 use harness::record::{
     Record, DATA, DELIMITER_ROW, DIVIDER, FILLER, HEAD, LINE_ENDING, MARKER, ROW, SPACE_OR_TAB, TABLE, VALUE,
@@ -48,24 +49,59 @@ pub fn sheets(tally: &mut Tally, length: usize, part: Part) {
 /// What sheets with remarks are made of.
 const REMARK_PARTS: [&[u8]; 7] = [b"a", b":-", b">", b" ", b"   ", b"\t", b"\n"];
 
-/// Sheets of so many such parts, with both options.
-pub fn remarks(tally: &mut Tally, length: usize, part: Part) {
-    each_word(&REMARK_PARTS, length, part, |parts| {
+/// What sheets with a byte order mark, or a part of one, are made of.
+const MARK_PARTS: [&[u8]; 9] = [&BOM, b"\xef\xbb", b"\xbf", b"a", b":-", b">", b"  ", b"\n", b"\r\n"];
+
+/// Sheets of so many parts, with both options.
+fn sheets_of(parts: &[&[u8]], tally: &mut Tally, length: usize, part: Part) {
+    each_word(parts, length, part, |parts| {
         let sheet = parts.concat();
         asks::sheet(tally, &sheet, true, None);
         asks::sheet(tally, &sheet, false, None);
     });
 }
 
+/// Sheets of so many parts of those with remarks.
+pub fn remarks(tally: &mut Tally, length: usize, part: Part) {
+    sheets_of(&REMARK_PARTS, tally, length, part);
+}
+
+/// Sheets of so many parts of those with marks.
+pub fn marks(tally: &mut Tally, length: usize, part: Part) {
+    sheets_of(&MARK_PARTS, tally, length, part);
+}
+
+/// Heads and rows at every offset of such sheets, the lines lazy or not.
+pub fn marked_lines(tally: &mut Tally, length: usize, part: Part) {
+    each_word(&MARK_PARTS, length, part, |parts| {
+        let sheet = parts.concat();
+        for offset in 0..=sheet.len() + 1 {
+            for (code_indented, lazy) in [(true, false), (false, false), (true, true)] {
+                asks::head(tally, &sheet, offset, HeadFlags { code_indented, lazy, pierced: false });
+                asks::row(tally, &sheet, offset, lazy);
+            }
+        }
+    });
+}
+
 /// The shapes at 65,536 bytes and so many more, with exactly enough slots and one raw slot too few: the crate's
-/// resolver takes seconds on some. Also their first line as head and as row.
+/// resolver takes seconds on some. Also their first line as head and as row. The first shapes also behind a byte order
+/// mark, which is among the bytes.
 pub fn longest_sheets(tally: &mut Tally, over: usize, part: Part) {
-    for (_, shape) in shapes::all().enumerate().filter(|(place, _)| place % part.of == part.mine) {
-        let mut sheet = (shape.make)(65_536);
-        sheet.resize(65_536 + over, b'a');
-        asks::sheet(tally, &sheet, true, Some(0));
-        asks::head(tally, &sheet, 0, HeadFlags { code_indented: true, ..HeadFlags::default() });
-        asks::row(tally, &sheet, 0, false);
+    for (place, shape) in shapes::all().enumerate().filter(|(place, _)| place % part.of == part.mine) {
+        longest_sheet(tally, (shape.make)(65_536), over);
+        if place < 4 {
+            longest_sheet(tally, [&BOM, &(shape.make)(65_533)[..]].concat(), over);
+        }
+    }
+}
+
+fn longest_sheet(tally: &mut Tally, mut sheet: Vec<u8>, over: usize) {
+    sheet.resize(65_536 + over, b'a');
+    asks::sheet(tally, &sheet, true, Some(0));
+    for offset in [0, 3] {
+        asks::head(tally, &sheet, offset, HeadFlags { code_indented: true, ..HeadFlags::default() });
+        asks::row(tally, &sheet, offset, false);
     }
 }
 

@@ -21,7 +21,7 @@ const SLOTS: usize = 99;
 /// A label of the document, how the crate's answer begins, and how ours does. Of a sheet, the cells by row are told.
 type Listed = (&'static str, &'static str, &'static str);
 
-const LISTED: [Listed; 36] = [
+const LISTED: [Listed; 37] = [
     ("B1", "panic expected non-empty event", "8"),
     ("B2", "ok 4 1,7,1,1,0,0,0 1,1,1,1,0,0,0 2,1,1,2,1,0,0 2,7,1,2,1,0,0", "8"),
     ("B3", "ok 4 1,7,", "1"),
@@ -59,6 +59,8 @@ const LISTED: [Listed; 36] = [
     ("G8", "cells by row 1 1", "cells by row 1 1"),
     ("G9", "cells by row 1 1", "cells by row 1 1"),
     ("G10", "cells by row", "cells by row"),
+    // One piece of data, four bytes and columns of it.
+    ("G11", "ok 4 1,7,1,1,0,0,0 1,3,1,1,0,0,0 2,3,1,5,4,0,0", "2"),
 ];
 
 /// The words of the request that the document gives under a label, without the string before it.

@@ -15,6 +15,7 @@ mod sheets;
 mod tally;
 
 use exhaustive::Part;
+use harness::bom::{unmarked, Unmarked};
 use harness::kept::random::Random;
 use harness::lines::lines;
 use poolsheet::HeadFlags;
@@ -68,13 +69,15 @@ fn in_threads(name: &str, total: &mut Tally, work: impl Fn(&mut Tally, Part) + S
 /// Every short input of each kind.
 fn compare_exhaustively(total: &mut Tally) {
     type Work = fn(&mut Tally, usize, Part);
-    let kinds: [(&str, usize, Work); 8] = [
+    let kinds: [(&str, usize, Work); 10] = [
         ("resolve, records,", 4, exhaustive::resolve_records),
         ("resolve, pieces a row,", 7, exhaustive::resolve_tables),
         ("align, records,", 7, exhaustive::align_records),
         ("edit, edits,", 3, exhaustive::edits),
         ("all shapes, 65,536 bytes and", 1, exhaustive::longest_sheets),
         ("heads and rows, bytes,", 6, exhaustive::heads_and_rows),
+        ("heads and rows, parts with marks,", 4, exhaustive::marked_lines),
+        ("sheets, parts with marks,", 6, exhaustive::marks),
         ("sheets, parts with remarks,", 8, exhaustive::remarks),
         ("sheets, bytes,", 8, exhaustive::sheets),
     ];
@@ -123,15 +126,16 @@ fn random_sheet(tally: &mut Tally, random: &mut Random) {
     asks::sheet(tally, &sheet, random.percent(60), long);
 }
 
-/// Heads and rows at some line starts of a sheet, and at some other offset.
+/// Heads and rows at some line starts of a sheet, at one of the first offsets, and at some other.
 fn random_lines(tally: &mut Tally, random: &mut Random) {
     let sheet = sheets::any(random);
-    let lines = lines(&sheet);
+    let Unmarked { text, before } = unmarked(&sheet);
+    let starts: Vec<usize> = lines(text).iter().map(|line| before + line.start).collect();
     let other = match random.below(3) {
         0 => usize::MAX - random.below(3) as usize,
         _ => random.below(sheet.len() as u64 + 3) as usize,
     };
-    let offsets = [random.pick(&lines).start, random.pick(&lines).start, lines[0].start, other];
+    let offsets = [*random.pick(&starts), *random.pick(&starts), starts[0], random.below(5) as usize, other];
     for offset in offsets {
         let [code_indented, lazy, pierced] = [60, 5, 5].map(|yes| random.percent(yes));
         asks::head(tally, &sheet, offset, HeadFlags { code_indented, lazy, pierced });

@@ -1,5 +1,6 @@
 //! Sheets drawn at random, in many styles.
 
+use harness::bom::BOM;
 use harness::kept::random::Random;
 use harness::kept::sheet_cases as cases;
 use harness::lines::lines;
@@ -70,15 +71,31 @@ pub fn any(random: &mut Random) -> Vec<u8> {
     if random.percent(15) {
         sheet = with_line_ends(random, &sheet);
     }
+    if random.percent(20) {
+        add_mark(random, &mut sheet);
+    }
     sheet
 }
 
-/// A sheet chosen by hand, of all kinds or one about remarks.
+/// A sheet chosen by hand, of all kinds, one about remarks or one about byte order marks.
 fn by_hand(random: &mut Random) -> Vec<u8> {
-    if random.percent(30) {
-        return random.pick(&cases::REMARKS).1.as_bytes().to_vec();
+    match random.below(10) {
+        0..=2 => random.pick(&cases::REMARKS).1.as_bytes().to_vec(),
+        3 => random.pick(&cases::MARKED).1.to_vec(),
+        _ => random.pick(&cases::by_hand()).clone(),
     }
-    random.pick(&cases::by_hand()).clone()
+}
+
+/// A byte order mark in front, or before some line, whole or in part, once or twice.
+fn add_mark(random: &mut Random, sheet: &mut Vec<u8>) {
+    let starts: Vec<usize> = lines(sheet).iter().map(|line| line.start).collect();
+    let start = if random.percent(80) { 0 } else { *random.pick(&starts) };
+    let mark: &[u8] = match random.below(10) {
+        0 => &BOM[..2],
+        1 => &BOM.repeat(2),
+        _ => &BOM,
+    };
+    sheet.splice(start..start, mark.iter().copied());
 }
 
 /// A remark, or a line that is near to one, before some line, or its mark before a line's text.

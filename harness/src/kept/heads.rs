@@ -49,6 +49,7 @@ pub fn kept() -> Kept {
     add_spaces(&mut kept);
     add_random(&mut kept);
     add_remarks(&mut kept);
+    add_marked(&mut kept);
     kept
 }
 
@@ -151,5 +152,20 @@ fn add_remarks(kept: &mut Kept) {
             add(kept, &Ask { code_indented, ..Ask::at(&cases::with_remark(1, indent, "\n"), 0) }, false);
         }
         add(kept, &Ask::at(&cases::with_remark(2, indent, "\n"), 0), false);
+    }
+}
+
+/// Sheets with a byte order mark, at the first offsets, with both options, and with flags.
+fn add_marked(kept: &mut Kept) {
+    for (_, sheet) in cases::MARKED {
+        for offset in cases::MARKED_OFFSETS {
+            add(kept, &Ask::at(sheet, offset), false);
+            add(kept, &Ask { code_indented: false, ..Ask::at(sheet, offset) }, false);
+        }
+    }
+    for (lazy, pierced) in [(true, false), (false, true)] {
+        for offset in cases::MARKED_OFFSETS {
+            add(kept, &Ask { lazy, pierced, ..Ask::at(b"\xef\xbb\xbfa\n:-", offset) }, false);
+        }
     }
 }

@@ -21,6 +21,7 @@ pub fn kept() -> Kept {
     add_spaces(&mut kept);
     add_random(&mut kept);
     add_remarks(&mut kept);
+    add_marked(&mut kept);
     kept
 }
 
@@ -133,5 +134,18 @@ fn add_remarks(kept: &mut Kept) {
     }
     for indent in cases::REMARK_INDENTS {
         add(kept, &cases::with_remark(3, indent, "\n"), 5, false, false);
+    }
+}
+
+/// Sheets with a byte order mark, at the first offsets and at all line starts.
+fn add_marked(kept: &mut Kept) {
+    for (_, sheet) in cases::MARKED {
+        for offset in cases::MARKED_OFFSETS {
+            add(kept, sheet, offset, false, false);
+            add(kept, sheet, offset, true, false);
+        }
+        for line in lines(sheet) {
+            add(kept, sheet, line.start as u64, false, false);
+        }
     }
 }

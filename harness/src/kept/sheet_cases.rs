@@ -256,6 +256,47 @@ pub fn with_remark(place: usize, indent: &str, line_end: &str) -> Vec<u8> {
     lines.join(line_end).into_bytes()
 }
 
+/// Sheets that begin with a byte order mark, have it elsewhere, or begin with something near to it.
+pub const MARKED: [(&str, &[u8]); 34] = [
+    ("alone", b"\xef\xbb\xbf"),
+    ("head", b"\xef\xbb\xbfa\n:-"),
+    ("table", b"\xef\xbb\xbf|a|b|\n|:-|-|\n|c|d|\n"),
+    ("crlf", b"\xef\xbb\xbfa\r\n:-\r\nb\r\n"),
+    ("cr", b"\xef\xbb\xbfa\r:-\rb\r"),
+    ("lineend", b"\xef\xbb\xbf\n"),
+    ("lineends", b"\xef\xbb\xbf\r\n\r\na\n:-"),
+    ("blankfirst", b"\xef\xbb\xbf \t\na\n:-\nb"),
+    ("spaces", b"\xef\xbb\xbf  "),
+    ("prosefirst", b"\xef\xbb\xbfp\na\n:-\nb\n\nc\n-:\n"),
+    ("twice", b"\xef\xbb\xbf\xef\xbb\xbfa\n:-\nb"),
+    ("twicealone", b"\xef\xbb\xbf\xef\xbb\xbf"),
+    ("twobytes", b"\xef\xbba\n:-\nb"),
+    ("twoalone", b"\xef\xbb"),
+    ("onebyte", b"\xefa\n:-\nb"),
+    ("onealone", b"\xef"),
+    ("lineinside", b"\xef\xbb\na\n:-"),
+    ("otherfirst", b"\xee\xbb\xbfa\n:-"),
+    ("othersecond", b"\xef\xba\xbfa\n:-"),
+    ("otherthird", b"\xef\xbb\xbea\n:-"),
+    ("turned", b"\xbf\xbb\xefa\n:-"),
+    ("sixteen", b"\xff\xfea\n:-"),
+    ("indented", b"\xef\xbb\xbf   a\n:-"),
+    ("code", b"\xef\xbb\xbf    a\n:-"),
+    ("tabbed", b"\xef\xbb\xbf\ta\n:-"),
+    ("tabs", b"\xef\xbb\xbfa\tb|\tc\n:-\t|-\n\td"),
+    ("remark", b"\xef\xbb\xbf> a\nb\n:-\nc"),
+    ("remarkhead", b"\xef\xbb\xbf   >a\n:-\nb"),
+    ("tabremark", b"\xef\xbb\xbf\t>a\n:-\nb"),
+    ("second", b"\n\xef\xbb\xbfa\n:-\nb"),
+    ("everyline", b"\xef\xbb\xbfa\n\xef\xbb\xbf:-\n\xef\xbb\xbfb"),
+    ("inbody", b"\xef\xbb\xbfa\n:-\n\xef\xbb\xbfb\nc\xef\xbb\xbf|d"),
+    ("delimiters", b"\xef\xbb\xbf:-\n:-\n:-"),
+    ("behindspace", b" \xef\xbb\xbfa\n:-"),
+];
+
+/// The offsets at which a head and a row are asked in these: the mark's own, the one behind it, one more.
+pub const MARKED_OFFSETS: std::ops::RangeInclusive<u64> = 0..=4;
+
 /// All sheets chosen by hand.
 pub fn by_hand() -> Vec<Vec<u8>> {
     let texts = READINGS.iter().chain(&SPECIFICATION).chain(&HEADS).chain(&ESCAPES).chain(&BODIES);

@@ -2,6 +2,7 @@
 
 use super::random::Random;
 use super::{sheet_cases as cases, Kept, PLENTY};
+use crate::bom::BOM;
 use crate::calls::{self, SheetSlots};
 use crate::print;
 
@@ -43,6 +44,7 @@ pub fn kept() -> Kept {
     add_large(&mut kept);
     add_random(&mut kept);
     add_remarks(&mut kept);
+    add_marked(&mut kept);
     kept
 }
 
@@ -125,5 +127,19 @@ fn add_remarks(kept: &mut Kept) {
                 }
             }
         }
+    }
+}
+
+/// Sheets with a byte order mark, and sheets of every kind behind one.
+fn add_marked(kept: &mut Kept) {
+    for (number, (_, sheet)) in cases::MARKED.iter().enumerate() {
+        add(kept, sheet, true, number % 5 == 0);
+        add(kept, sheet, false, false);
+    }
+    for (number, sheet) in cases::by_hand().iter().enumerate() {
+        let marked = [&BOM[..], sheet].concat();
+        let code_indented = number % 2 == 0;
+        let slots = needed(&marked, code_indented);
+        kept.add(request(&marked, code_indented, slots));
     }
 }
