@@ -13,7 +13,6 @@ use Rattle.tokenizer.specs.declared.event.Point.{Point}
 use Rattle.tokenizer.specs.Points.{start, columnPast}
 use Rattle.tokenizer.specs.Lines.{Line, lines, firstStart, lineNumber, blank, isEmpty, unindented}
 use Rattle.tokenizer.specs.Places.{Placed, placed, placedLines, firstPoint}
-use Rattle.tokenizer.proofs.Starts.{first-zero}
 use Rattle.gfm_table.specs.Heads.{marked}
 use Rattle.gfm_table.specs.Places.{pointIn}
 use Rattle.sheet.specs.Walk.{closes, opens, heads, rows, tables}
@@ -176,5 +175,5 @@ beyond kind on s t a b u v e =
 
 pub bom-passed : (kind : ℕ → ℕ) → BomPassed kind
 bom-passed kind on s h =
-    let plain : tables kind on s ≡ heads kind on (placed start (lines s)) = ap (λ (i : ℕ). heads kind on (placed (pointIn 1 i 1) (lines (drop i s)))) (first-zero s h) in
+    let plain : tables kind on s ≡ heads kind on (placed start (lines s)) = ap (λ (i : ℕ). heads kind on (placed (pointIn 1 i 1) (lines (drop i s)))) h in
     rw plain (same-tables kind on {m = 1} {n = 1} {a = 3} {b = 0} {p = pointIn 1 3 1} (record { line = refl; column = refl; index = refl; vs = refl }) (lines s))

@@ -15,6 +15,7 @@ use Rattle.tokenizer.specs.Points.{start, columnPast}
 use Rattle.tokenizer.specs.Events.{GfmTableRow, GfmTableDelimiterRow}
 use Rattle.tokenizer.specs.Lines.{Line, lines, firstStart}
 use Rattle.tokenizer.specs.Places.{Placed, placed, firstPoint}
+use Rattle.tokenizer.proofs.Starts.{first-front}
 use Rattle.gfm_table.specs.Rows.{Piece, Row, rowPieces, delimiterPieces, rawRow}
 use Rattle.gfm_table.specs.Heads.{marked}
 use Rattle.gfm_table.specs.Raw.{rowAt, textRow}
@@ -218,20 +219,13 @@ unfolding marked
 marked-length kind [] h = absurd (false≢true h)
 marked-length kind (b ∷ u) h = omega arith
 
--- a head stands before a body line: at least three bytes
+-- a head stands before a body line: at least three bytes, which tell where the first line starts
 way-long : {kind : ℕ → ℕ} {on : Bool} {ls : List Line} → Way kind on true ls → (p : Point) → p .index + 3 ≤ after p ls .index
 unfolding after
 way-long (prose {l = j} e w) p = omega (arith, way-long w (onward p j))
 way-long {kind} {on} (head {l = j} {d} {ls} e w) p =
     let h = opens-head kind on (starting start j) (starting start d) e in
     omega (arith, after-le ls (onward (onward p j) d), solid-length kind (j .body) (h .filled), marked-length kind (d .body) (h .marked), eqb-false (j .end) 0 (h .ended))
-
--- they tell where the first line starts
-first-front : (x u v : List ℕ) → 3 ≤ length x → firstStart (x ++ u) ≡ firstStart (x ++ v)
-first-front [] u v h = absurd (omega arith)
-first-front (a ∷ []) u v h = absurd (omega arith)
-first-front (a ∷ b ∷ []) u v h = absurd (omega arith)
-first-front (a ∷ b ∷ c ∷ x) u v h = refl
 
 module _ (kind : ℕ → ℕ) (on : Bool) (x old new y : List ℕ) (r : BodyRow) (from : r .row .entry .index ≡ length x) (to : r .row .exit .index ≡ length x + length old)
     (p : plain new ≡ true) (solid : closes kind new ≡ false) where

@@ -8,7 +8,7 @@ use lib.ListN.{length}
 use Rattle.tokenizer.specs.Bytes.{kindOf}
 use Rattle.tokenizer.specs.Points as Points
 use Rattle.tokenizer.specs.Lines as Lines
-use Rattle.tokenizer.specs.Lines.{startsLine}
+use Rattle.tokenizer.specs.Lines.{bom, startsLine}
 use Rattle.tokenizer.specs.Places as Places
 use Rattle.gfm_table.specs.Rows as Rows
 use Rattle.gfm_table.specs.Heads as Heads
@@ -55,11 +55,7 @@ remark-read :
 unfolding kindOf Points.columnPast Points.columnAfter Lines.lines Lines.indent Lines.unindented Places.placed Rows.rowPieces Rows.delimiterPieces Rows.passed Heads.solid Heads.dividers Heads.trailing Heads.stretches Heads.untailed Heads.trimmed Heads.untrailed Heads.hyphens Heads.allValues Heads.marked Heads.alignments Walk.closes Walk.heads Walk.bodyRows bodies
 remark-read = (refl, refl, refl, refl)
 
--- the byte order mark
-abbrev bom : List ℕ
-bom = 239 ∷ 187 ∷ 191 ∷ []
-
--- behind it line 1 starts at offset 3; offsets 0 to 2 start no line; a second one, or two of its bytes, are data
+-- behind the byte order mark line 1 starts at offset 3; offsets 0 to 2 start no line; a second one, or two of its bytes, are data
 bom-starts :
     (startsLine (bom ++ table) 0 ≡ false)
     × (startsLine (bom ++ table) 1 ≡ false)
@@ -68,7 +64,7 @@ bom-starts :
     × (startsLine (bom ++ table) 7 ≡ true)
     × (startsLine bom 3 ≡ true)
     × (startsLine (bom ++ bom) 6 ≡ false)
-    × (startsLine (239 ∷ 187 ∷ table) 0 ≡ true)
+    × (startsLine (0xEF ∷ 0xBB ∷ table) 0 ≡ true)
 unfolding Lines.endsBefore
 bom-starts = (refl, refl, refl, refl, refl, refl, refl, refl)
 
@@ -82,11 +78,11 @@ unfolding kindOf Lines.lines Lines.endsWithin Lines.unindented Places.placed bla
 fresh-later = record { from = record { above = _ ∷ []; line = _; below = []; split = refl; from = refl; number = refl }; gap = refl }
 
 -- the tables of a sheet, each by the index and the column where its head line begins
-unfoldable starts : List Found → List (ℕ × ℕ)
-starts [] = []
-starts (f ∷ fs) = (f .table .entry .index, f .table .entry .column) ∷ starts fs
+unfoldable entries : List Found → List (ℕ × ℕ)
+entries [] = []
+entries (f ∷ fs) = (f .table .entry .index, f .table .entry .column) ∷ entries fs
 
--- the table behind it, and where its head line begins; a remark behind it
-bom-read : (starts (tables kindOf true (bom ++ table)) ≡ (3, 1) ∷ []) × (starts (tables kindOf true (bom ++ (62 ∷ table))) ≡ [])
-unfolding kindOf Points.columnPast Points.columnAfter Lines.lines Lines.indent Lines.unindented Places.placed Rows.rowPieces Rows.delimiterPieces Rows.passed Heads.solid Heads.dividers Heads.trailing Heads.stretches Heads.untailed Heads.trimmed Heads.untrailed Heads.hyphens Heads.allValues Heads.marked Heads.alignments Walk.closes Walk.heads Walk.bodyRows starts
+-- the table behind the mark, and where its head line begins; a remark behind it
+bom-read : (entries (tables kindOf true (bom ++ table)) ≡ (3, 1) ∷ []) × (entries (tables kindOf true (bom ++ (62 ∷ table))) ≡ [])
+unfolding kindOf Points.columnPast Points.columnAfter Lines.lines Lines.indent Lines.unindented Places.placed Rows.rowPieces Rows.delimiterPieces Rows.passed Heads.solid Heads.dividers Heads.trailing Heads.stretches Heads.untailed Heads.trimmed Heads.untrailed Heads.hyphens Heads.allValues Heads.marked Heads.alignments Walk.closes Walk.heads Walk.bodyRows entries
 bom-read = (refl, refl)

@@ -9,9 +9,9 @@ use lib.Dec.{eqb}
 use lib.ListN.{length, drop}
 use borrow.Author.Tests.{eqb-true}
 use Rattle.tokenizer.specs.declared.event.Point.{Point}
-use Rattle.tokenizer.specs.Lines.{Line, lines, startsLF, emptyLine, firstStart, endsLine, endsBefore, startsLine, endsWithin}
+use Rattle.tokenizer.specs.Lines.{Line, lines, startsLF, emptyLine, bom, firstStart, endsLine, endsBefore, startsLine, endsWithin}
 use Rattle.tokenizer.specs.Places.{Placed, placed, firstPoint}
-use Rattle.tokenizer.proofs.Starts.{Bom, bom}
+use Rattle.tokenizer.proofs.Starts.{BomCase, bom-case, bom-number}
 use Rattle.sheet.specs.Demands.{Starts}
 use Rattle.sheet.proofs.Tests.{test}
 use Rattle.sheet.proofs.Walks.{starting, onward}
@@ -119,12 +119,10 @@ record LinesTo (s : List ℕ) (a : ℕ) : Type 0 where
 plain-to : (s : List ℕ) (a : ℕ) → firstStart s ≡ 0 → LinesAt s a → LinesTo s a
 plain-to s a e r = record { ls = r .ls; l = r .l; ms = r .ms; split = ap (λ (k : ℕ). lines (drop k s)) e ∙ r .split; size = omega (arith, r .size); count = r .count }
 
--- no line ends within the mark
-bom-to : (u : List ℕ) (a : ℕ) → LinesAt u a → LinesTo (239 ∷ 187 ∷ 191 ∷ u) (suc (suc (suc a)))
-unfolding endsWithin
-bom-to u a r = record { ls = r .ls; l = r .l; ms = r .ms; split = r .split; size = omega (arith, r .size); count = omega (arith, r .count) }
+bom-to : (u : List ℕ) (a : ℕ) → LinesAt u a → LinesTo (bom ++ u) (suc (suc (suc a)))
+bom-to u a r = record { ls = r .ls; l = r .l; ms = r .ms; split = r .split; size = omega (arith, r .size); count = omega (arith, r .count, bom-number u a) }
 
-bom-lines : (u : List ℕ) (a : ℕ) → endsBefore (239 ∷ 187 ∷ 191 ∷ u) a ≡ true → LinesTo (239 ∷ 187 ∷ 191 ∷ u) a
+bom-lines : (u : List ℕ) (a : ℕ) → endsBefore (bom ++ u) a ≡ true → LinesTo (bom ++ u) a
 unfolding endsBefore
 bom-lines u zero h = absurd (false≢true h)
 bom-lines u (suc zero) h = absurd (false≢true h)
@@ -133,13 +131,13 @@ bom-lines u (suc (suc (suc zero))) h = absurd (false≢true h)
 bom-lines u (suc (suc (suc (suc a)))) h = bom-to u (suc a) (before-lines u (suc a) h)
 
 starts-lines : (s : List ℕ) (a : ℕ) → startsLine s a ≡ true → LinesTo s a
-starts-lines s a h = go s (bom s) h
+starts-lines s a h = go s (bom-case s) h
   where
-    go : (s : List ℕ) → Bom s → startsLine s a ≡ true → LinesTo s a
-    go s (Bom.with u) h =
+    go : (s : List ℕ) → BomCase s → startsLine s a ≡ true → LinesTo s a
+    go s (BomCase.with u) h =
         test (eqb a 3) (λ f. rw (eqb-true a 3 f) (bom-to u 0 (first u)))
         (λ f. bom-lines u a (rw f at h))
-    go s (Bom.without _ e) h =
+    go s (BomCase.without _ e) h =
         test (eqb a (firstStart s)) (λ f. plain-to s a e (rw (eqb-true a (firstStart s) f ∙ e) (first s)))
         (λ f. plain-to s a e (before-lines s a (rw f at h)))
 

@@ -11,7 +11,7 @@ use Rattle.tokenizer.specs.declared.event.Point.{Point}
 use Rattle.tokenizer.specs.declared.event.Event.{Event}
 use Rattle.tokenizer.specs.Bytes.{isEnd}
 use Rattle.tokenizer.specs.Events.{SpaceOrTab, LineEnding, Data, GfmTableRow, GfmTableCell, GfmTableCellDivider, GfmTableDelimiterRow, GfmTableDelimiterMarker, GfmTableDelimiterCellValue, GfmTableDelimiterFiller, pointOf}
-use Rattle.tokenizer.specs.Lines.{startsLine, lineNumber, blank}
+use Rattle.tokenizer.specs.Lines.{bom, firstStart, startsLine, lineNumber, blank}
 use Rattle.tokenizer.specs.Places.{Placed, placedLines}
 use Rattle.gfm_table.specs.Heads.{headRefusal, headCells, values}
 use Rattle.edit_map.specs.Tables.{BodyRow, Table, rawTable, resolvedTable, lastExit}
@@ -85,7 +85,7 @@ Beyond kind =
 
 -- a byte order mark before a sheet whose first line starts at 0: the same tables, moved by its three bytes
 abbrev pub BomPassed : (ℕ → ℕ) → Type 0
-BomPassed kind = (on : Bool) (s : List ℕ) → startsLine s 0 ≡ true → Each (SameTable (Shifted 1 1 3 0)) (tables kind on (239 ∷ 187 ∷ 191 ∷ s)) (tables kind on s)
+BomPassed kind = (on : Bool) (s : List ℕ) → firstStart s ≡ 0 → Each (SameTable (Shifted 1 1 3 0)) (tables kind on (bom ++ s)) (tables kind on s)
 
 -- ## Rows
 

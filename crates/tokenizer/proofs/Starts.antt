@@ -1,83 +1,87 @@
 -- Line starts and line numbers, told by the bytes next to an offset.
 -- Assumes nothing.
 use Prim.Native.Nat.{ℕ, zero, suc, _+_, _-_, _≤_, _<_}
-use mathlib.Core.Path.{_≡_, refl, ap, sym, _∙_}
+use mathlib.Core.Path.{_≡_, refl, ap, ap₂, sym, _∙_}
 use mathlib.Core.Bool.{Bool, true, false, cond, _&&_, false≢true}
-use mathlib.Core.List.{List, [], _∷_}
+use mathlib.Core.List.{List, [], _∷_, _++_}
 use native.Mathlib.Nat.{add-zero, zero-add, add-assoc, not-suc-le-zero, le-of-suc-le-suc}
 use native.Mathlib.Numerals.{add-one, sub-one}
 use native.Mathlib.Omega.{arith}
 use lib.ListN.{length, drop, getD}
 use borrow.Author.Tests.{eqb-true, ne-eqb}
 use lib.Dec.{eqb}
-use Rattle.tokenizer.specs.Lines.{firstStart, endsLine, endsBefore, startsLine, endsWithin, lineNumber}
+use Rattle.tokenizer.specs.Lines.{bom, beginsWith, firstStart, endsLine, endsBefore, startsLine, endsWithin, lineNumber}
 
 -- ## The first line
 
 -- a sheet with a byte order mark, or without
-pub data Bom : List ℕ → Type 0 where
-  with : (u : List ℕ) → Bom (239 ∷ 187 ∷ 191 ∷ u)
-  without : (s : List ℕ) → firstStart s ≡ 0 → Bom s
+pub data BomCase : List ℕ → Type 0 where
+  with : (u : List ℕ) → BomCase (bom ++ u)
+  without : (s : List ℕ) → firstStart s ≡ 0 → BomCase s
 
-pub bom : (s : List ℕ) → Bom s
-bom [] = without [] refl
-bom (a ∷ []) = without _ refl
-bom (a ∷ b ∷ []) = without _ refl
-bom (a ∷ b ∷ c ∷ u) = go (eqb a 239) (eqb b 187) (eqb c 191) refl refl refl
+-- what begins with t is t and more
+front : (t s : List ℕ) → beginsWith t s ≡ true → (u : List ℕ) × (s ≡ t ++ u)
+front [] s e = (s, refl)
+front (a ∷ t) [] e = absurd (false≢true e)
+front (a ∷ t) (b ∷ s) e = go (eqb b a) refl (λ h. front t s h) e
   where
-    go : (x y z : Bool) → eqb a 239 ≡ x → eqb b 187 ≡ y → eqb c 191 ≡ z → Bom (a ∷ b ∷ c ∷ u)
-    go true true true e f g = rw (eqb-true a 239 e, eqb-true b 187 f, eqb-true c 191 g) (with u)
-    go true true false e f g = without (a ∷ b ∷ c ∷ u) (rw (e, f, g))
-    go true false z e f g = without (a ∷ b ∷ c ∷ u) (rw (e, f))
-    go false y z e f g = without (a ∷ b ∷ c ∷ u) (rw e)
+    go : (x : Bool) → eqb b a ≡ x → (beginsWith t s ≡ true → (u : List ℕ) × (s ≡ t ++ u)) → x && beginsWith t s ≡ true → (u : List ℕ) × (b ∷ s ≡ a ∷ t ++ u)
+    go true f r h = (r h .0, ap₂ _∷_ (eqb-true b a f) (r h .1))
+    go false f r h = absurd (false≢true h)
+
+pub bom-case : (s : List ℕ) → BomCase s
+bom-case s = go (beginsWith bom s) refl
+  where
+    go : (t : Bool) → beginsWith bom s ≡ t → BomCase s
+    go true e = let r = front bom s e in rw (r .1) (with (r .0))
+    go false e = without s (rw e)
 
 -- within the sheet, and at 3 at most
 pub first-within : (s : List ℕ) → (firstStart s ≤ length s) × (firstStart s ≤ 3)
-first-within s = go s (bom s)
+first-within s = go s (bom-case s)
   where
-    go : (s : List ℕ) → Bom s → (firstStart s ≤ length s) × (firstStart s ≤ 3)
-    go s (Bom.with u) = (omega arith, omega arith)
-    go s (Bom.without _ e) = (omega (arith, e), omega (arith, e))
-
--- where a line starts at 0, it is the first
-pub first-zero : (s : List ℕ) → startsLine s 0 ≡ true → firstStart s ≡ 0
-unfolding endsBefore
-first-zero s h = go s (bom s) h
-  where
-    go : (s : List ℕ) → Bom s → startsLine s 0 ≡ true → firstStart s ≡ 0
-    go s (Bom.with u) h = absurd (false≢true h)
-    go s (Bom.without _ e) h = e
+    go : (s : List ℕ) → BomCase s → (firstStart s ≤ length s) × (firstStart s ≤ 3)
+    go s (BomCase.with u) = (omega arith, omega arith)
+    go s (BomCase.without _ e) = (omega (arith, e), omega (arith, e))
 
 -- it starts at 0 in few bytes, and otherwise as the first three say
 pub first-few : (s : List ℕ) → length s < 3 → firstStart s ≡ 0
-first-few [] h = refl
-first-few (a ∷ []) h = refl
-first-few (a ∷ b ∷ []) h = refl
-first-few (a ∷ b ∷ c ∷ u) h = absurd (omega arith)
+first-few s h = go s (bom-case s) h
+  where
+    go : (s : List ℕ) → BomCase s → length s < 3 → firstStart s ≡ 0
+    go s (BomCase.with u) h = absurd (omega arith)
+    go s (BomCase.without _ e) h = e
 
-first-three : (s : List ℕ) → 3 ≤ length s → firstStart s ≡ cond (eqb (getD s 0 0) 239 && (eqb (getD s 1 0) 187 && eqb (getD s 2 0) 191)) 3 0
+first-three : (s : List ℕ) → 3 ≤ length s → firstStart s ≡ cond (eqb (getD s 0 0) 0xEF && (eqb (getD s 1 0) 0xBB && (eqb (getD s 2 0) 0xBF && true))) 3 0
 first-three [] h = absurd (omega arith)
 first-three (a ∷ []) h = absurd (omega arith)
 first-three (a ∷ b ∷ []) h = absurd (omega arith)
 first-three (a ∷ b ∷ c ∷ u) h = refl
 
 module _ (s : List ℕ) (h : 3 ≤ length s) where
-  pub first-other : (getD s 0 0 ≡ 239 → ⊥) → firstStart s ≡ 0
-  first-other z = first-three s h ∙ rw (ne-eqb (getD s 0 0) 239 z)
+  pub first-other : (getD s 0 0 ≡ 0xEF → ⊥) → firstStart s ≡ 0
+  first-other z = first-three s h ∙ rw (ne-eqb (getD s 0 0) 0xEF z)
 
-  module _ (a : getD s 0 0 ≡ 239) where
-    pub first-second : (getD s 1 0 ≡ 187 → ⊥) → firstStart s ≡ 0
-    first-second z = first-three s h ∙ rw (a, ne-eqb (getD s 1 0) 187 z)
+  module _ (a : getD s 0 0 ≡ 0xEF) where
+    pub first-second : (getD s 1 0 ≡ 0xBB → ⊥) → firstStart s ≡ 0
+    first-second z = first-three s h ∙ rw (a, ne-eqb (getD s 1 0) 0xBB z)
 
-    module _ (b : getD s 1 0 ≡ 187) where
-      pub first-third : (getD s 2 0 ≡ 191 → ⊥) → firstStart s ≡ 0
-      first-third z = first-three s h ∙ rw (a, b, ne-eqb (getD s 2 0) 191 z)
+    module _ (b : getD s 1 0 ≡ 0xBB) where
+      pub first-third : (getD s 2 0 ≡ 0xBF → ⊥) → firstStart s ≡ 0
+      first-third z = first-three s h ∙ rw (a, b, ne-eqb (getD s 2 0) 0xBF z)
 
-      pub first-marked : getD s 2 0 ≡ 191 → firstStart s ≡ 3
+      pub first-marked : getD s 2 0 ≡ 0xBF → firstStart s ≡ 3
       first-marked c = first-three s h ∙ rw (a, b, c)
 
+-- so three bytes in front tell it
+pub first-front : (x u v : List ℕ) → 3 ≤ length x → firstStart (x ++ u) ≡ firstStart (x ++ v)
+first-front [] u v h = absurd (omega arith)
+first-front (a ∷ []) u v h = absurd (omega arith)
+first-front (a ∷ b ∷ []) u v h = absurd (omega arith)
+first-front (a ∷ b ∷ c ∷ x) u v h = refl
+
 -- no line ends within the mark: line numbers behind it count from the first line
-pub bom-number : (u : List ℕ) (i : ℕ) → lineNumber (239 ∷ 187 ∷ 191 ∷ u) (suc (suc (suc i))) ≡ lineNumber u i
+pub bom-number : (u : List ℕ) (i : ℕ) → lineNumber (bom ++ u) (suc (suc (suc i))) ≡ lineNumber u i
 unfolding endsWithin
 bom-number u i = omega arith
 

@@ -56,12 +56,19 @@ lines (b ∷ u) =
 
 -- ## Line starts and line numbers
 
--- where the first line starts: behind a byte order mark, the bytes EF BB BF, otherwise at 0
+-- the byte order mark of request U6
+abbrev pub bom : List ℕ
+bom = 0xEF ∷ 0xBB ∷ 0xBF ∷ []
+
+-- whether the bytes u begin with the bytes t
+abbrev pub beginsWith : List ℕ → List ℕ → Bool
+beginsWith [] u = true
+beginsWith (a ∷ t) [] = false
+beginsWith (a ∷ t) (b ∷ u) = eqb b a && beginsWith t u
+
+-- where the first line starts: behind a byte order mark, otherwise at 0
 abbrev pub firstStart : List ℕ → ℕ
-firstStart [] = 0
-firstStart (a ∷ []) = 0
-firstStart (a ∷ b ∷ []) = 0
-firstStart (a ∷ b ∷ c ∷ u) = cond (eqb a 239 && (eqb b 187 && eqb c 191)) 3 0
+firstStart s = cond (beginsWith bom s) 3 0
 
 -- whether a line end is complete with the byte b, where u follows
 abbrev pub endsLine : ℕ → List ℕ → Bool

@@ -83,9 +83,9 @@ pub fn first_start(s: &[u8]) -> usize
     if s.len() < 3 {
         return 0;
     }
-    if s[0] == 239 {
-        if s[1] == 187 {
-            if s[2] == 191 {
+    if s[0] == 0xEF {
+        if s[1] == 0xBB {
+            if s[2] == 0xBF {
                 return 3;
             }
         }
