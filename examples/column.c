@@ -116,7 +116,8 @@ static int column(const uint8_t *sheet, size_t length, const char *path, const c
     } else {
         size_t counts[4];
         uint8_t number =
-            poolsheet_sheet(sheet, length, true, raw, raw_slots, results, result_slots, alignments, alignment_slots, counts);
+            poolsheet_sheet(sheet, length, poolsheet_kinds, sizeof poolsheet_kinds, true, raw, raw_slots, results,
+                            result_slots, alignments, alignment_slots, counts);
         if (number != POOLSHEET_ACCEPTED) {
             fprintf(stderr, "column: %s: refused by %d: %s\n", path, number, poolsheet_text(number));
         } else if (!print_column(results, counts[2], sheet, name)) {

@@ -94,7 +94,10 @@ enum poolsheet_number {
     POOLSHEET_EDITS_DO_NOT_FIT = 11,
     POOLSHEET_TOO_FEW_RESULT_SLOTS = 12,
     POOLSHEET_NO_TABLE_TO_ALIGN = 13,
-    POOLSHEET_TOO_FEW_ALIGNMENT_SLOTS = 14
+    POOLSHEET_TOO_FEW_ALIGNMENT_SLOTS = 14,
+    POOLSHEET_NO_KIND_TABLE = 20,
+    POOLSHEET_WHITESPACE_KINDS_DIFFER = 21,
+    POOLSHEET_PUNCTUATION_KINDS_DIFFER = 22
 };
 
 /* The number that a call returned, in words. */
@@ -115,9 +118,47 @@ static inline const char *poolsheet_text(uint8_t number) {
     case POOLSHEET_TOO_FEW_RESULT_SLOTS: return "more result slots are needed than were lent";
     case POOLSHEET_NO_TABLE_TO_ALIGN: return "the event enters no table, or no whole delimiter row follows it";
     case POOLSHEET_TOO_FEW_ALIGNMENT_SLOTS: return "more alignment slots are needed than were lent";
+    case POOLSHEET_NO_KIND_TABLE: return "the table of kinds has more or fewer than 256 entries, or a kind above 6";
+    case POOLSHEET_WHITESPACE_KINDS_DIFFER: return "the bytes of kind 1 are not tab and space, or those of kind 2 not line feed and carriage return";
+    case POOLSHEET_PUNCTUATION_KINDS_DIFFER: return "one of the kinds 3 to 6 has no byte or several, or the byte > has one of them";
     default: return "no such number";
     }
 }
+
+/*
+ * The kind of each byte, 16 bytes a line: 1 tab and space, 2 line feed and carriage return, 3 the pipe, 4 the backslash, 5 the hyphen,
+ * 6 the colon, 0 any other. `poolsheet_sheet` is given this table, or one of the firm's own. Where a firm writes `;` for the pipe, that
+ * is a copy in which `;` has the pipe's kind, and the pipe is a byte like any other:
+ *
+ *     uint8_t kinds[256];
+ *     memcpy(kinds, poolsheet_kinds, sizeof kinds);
+ *     kinds[';'] = kinds['|'];
+ *     kinds['|'] = 0;
+ *
+ * A table passes if it has 256 entries, none above 6 (20 if not), bytes 9 and 32 and no others have kind 1, bytes 10 and 13 and no others
+ * have kind 2 (21), one byte and no other has each of the kinds 3 to 6, and the byte `>` (62) has kind 0 (22).
+ *
+ * What is said below of pipe, backslash, hyphen and colon holds of the bytes that have their kinds. A byte order mark is passed over, and a
+ * remark begins with `>`, whatever the table. `poolsheet_head` and `poolsheet_row` always read with this one.
+ */
+static const uint8_t poolsheet_kinds[256] = {
+    0, 0, 0, 0, 0, 0, 0, 0, 0, 1, 2, 0, 0, 2, 0, 0,
+    0, 0, 0, 0, 0, 0, 0, 0, 0, 0, 0, 0, 0, 0, 0, 0,
+    1, 0, 0, 0, 0, 0, 0, 0, 0, 0, 0, 0, 0, 5, 0, 0,
+    0, 0, 0, 0, 0, 0, 0, 0, 0, 0, 6, 0, 0, 0, 0, 0,
+    0, 0, 0, 0, 0, 0, 0, 0, 0, 0, 0, 0, 0, 0, 0, 0,
+    0, 0, 0, 0, 0, 0, 0, 0, 0, 0, 0, 0, 4, 0, 0, 0,
+    0, 0, 0, 0, 0, 0, 0, 0, 0, 0, 0, 0, 0, 0, 0, 0,
+    0, 0, 0, 0, 0, 0, 0, 0, 0, 0, 0, 0, 3, 0, 0, 0,
+    0, 0, 0, 0, 0, 0, 0, 0, 0, 0, 0, 0, 0, 0, 0, 0,
+    0, 0, 0, 0, 0, 0, 0, 0, 0, 0, 0, 0, 0, 0, 0, 0,
+    0, 0, 0, 0, 0, 0, 0, 0, 0, 0, 0, 0, 0, 0, 0, 0,
+    0, 0, 0, 0, 0, 0, 0, 0, 0, 0, 0, 0, 0, 0, 0, 0,
+    0, 0, 0, 0, 0, 0, 0, 0, 0, 0, 0, 0, 0, 0, 0, 0,
+    0, 0, 0, 0, 0, 0, 0, 0, 0, 0, 0, 0, 0, 0, 0, 0,
+    0, 0, 0, 0, 0, 0, 0, 0, 0, 0, 0, 0, 0, 0, 0, 0,
+    0, 0, 0, 0, 0, 0, 0, 0, 0, 0, 0, 0, 0, 0, 0, 0
+};
 
 /* The longest sheet that is read. */
 #define POOLSHEET_SHEET_MAX 65536
@@ -142,12 +183,15 @@ static inline const char *poolsheet_text(uint8_t number) {
  * A table ends at a blank line, at a remark, or with the sheet. A remark is a line with at most 3 columns of indent and then `>`; it is
  * no part of any table, whatever `code_indented` says.
  *
- * Reads `sheet`. With `code_indented`, a line that is indented by 4 columns or more is no head line.
+ * Reads `sheet`, and `kinds`, the kind of each byte: `poolsheet_kinds` or a firm's own table, which is tested first. With
+ * `code_indented`, a line that is indented by 4 columns or more is no head line.
  * Writes `raw`, `results`, `alignments`, one alignment for each column of each table, and `counts`: tables, raw events, result
  * events, alignments.
- * Refuses by 1, 9, 12, 14.
+ * Refuses by 20, 21, 22, 1, 9, 12, 14.
  */
-uint8_t poolsheet_sheet(const uint8_t *sheet, size_t sheet_len, bool code_indented,
+uint8_t poolsheet_sheet(const uint8_t *sheet, size_t sheet_len,
+                        const uint8_t *kinds, size_t kinds_len,
+                        bool code_indented,
                         poolsheet_event *raw, size_t raw_len,
                         poolsheet_event *results, size_t results_len,
                         uint8_t *alignments, size_t alignments_len,

@@ -1,8 +1,9 @@
 //! The six calls of document 01, each with its questions in order. A refusal is `Err` of its number.
 
-use crate::bom::unmarked;
+use crate::bom::{unmarked, Unmarked};
 use crate::drive::{self, Flags};
 use crate::event::Event;
+use crate::kinds;
 use crate::lines::{lines, Line};
 use crate::questions::{self, Edit};
 use crate::record::{self, Record};
@@ -22,6 +23,7 @@ pub struct Row {
 }
 
 /// An accepted sheet.
+#[derive(Debug, Eq, PartialEq)]
 pub struct Sheet {
     pub tables: usize,
     pub raw: Vec<Record>,
@@ -94,10 +96,27 @@ pub struct SheetSlots {
     pub alignments: u64,
 }
 
-/// Sheet: question 1, then 9, 12 and 14, each once for the whole sheet.
+/// Sheet with the built-in kinds: question 1, then 9, 12 and 14, each once for the whole sheet.
 pub fn sheet(sheet: &[u8], code_indented: bool, slots: &SheetSlots) -> Result<Sheet, u8> {
     ask(questions::is_short_enough(sheet), 1)?;
-    let sheet = unmarked(sheet);
+    read(unmarked(sheet), code_indented, slots)
+}
+
+/// Sheet with a firm's own kinds (request U9): questions 20, 21 and 22, then as `sheet`. A byte order mark is passed
+/// over whatever kinds its bytes have. The rest is given to the crate in built-in bytes; events hold places only, so
+/// those it gives are the answer.
+pub fn sheet_with(kinds: &[u8], sheet: &[u8], code_indented: bool, slots: &SheetSlots) -> Result<Sheet, u8> {
+    ask(questions::are_kinds(kinds), 20)?;
+    ask(questions::has_whitespace_kinds(kinds), 21)?;
+    ask(questions::has_punctuation_kinds(kinds), 22)?;
+    ask(questions::is_short_enough(sheet), 1)?;
+    let Unmarked { text, before } = unmarked(sheet);
+    let text = kinds::exchanged(text, &kinds::to_built_in(kinds));
+    read(Unmarked { text: &text, before }, code_indented, slots)
+}
+
+/// The reading of a sheet that is not too long: questions 9, 12 and 14.
+fn read(sheet: Unmarked, code_indented: bool, slots: &SheetSlots) -> Result<Sheet, u8> {
     let tables = raw_tables(sheet.text, code_indented);
     let raw: Vec<Event> = tables.iter().flatten().cloned().collect();
     ask(questions::has_slots(slots.raw, raw.len()), 9)?;

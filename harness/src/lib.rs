@@ -32,6 +32,7 @@ pub mod drive;
 pub mod flow;
 pub mod guard;
 pub mod kept;
+pub mod kinds;
 pub mod lines;
 pub mod print;
 pub mod protocol;

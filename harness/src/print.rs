@@ -1,5 +1,6 @@
 //! Writes requests and answers.
 
+use crate::kinds;
 use crate::record::Record;
 use std::fmt::Write;
 
@@ -31,6 +32,11 @@ pub fn bytes(bytes: &[u8]) -> String {
         return "-".to_string();
     }
     bytes.iter().map(|byte| format!("{byte:02x}")).collect()
+}
+
+/// A table of kinds: its number of entries, and its changes to the built-in one. Entries behind the 256th must be 0.
+pub fn kinds(kinds: &[u8]) -> String {
+    format!("{} {}", kinds.len(), bytes(&kinds::changes(kinds)))
 }
 
 /// A group of event slots: the records up to the last that is not blank, then how many blank slots follow.

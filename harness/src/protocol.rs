@@ -1,9 +1,10 @@
 //! The line protocol: one answer line for each request line.
 
-use crate::calls::{self, SheetSlots};
+use crate::calls::{self, Sheet, SheetSlots};
 use crate::crate_only;
 use crate::drive::Flags;
 use crate::guard::guarded;
+use crate::kinds;
 use crate::print;
 use crate::read::{self, Words};
 
@@ -24,6 +25,7 @@ fn answer_words(mut words: Words) -> Option<String> {
         "edit" => edit(words),
         "align" => align(words),
         "sheet" => sheet(words),
+        "kinds" => sheet_with(words),
         other => crate_only::answer(other, words),
     }
 }
@@ -100,12 +102,24 @@ fn align(mut words: Words) -> Option<String> {
 }
 
 /// `sheet CODE_INDENTED RAW RESULTS ALIGNMENTS HEX`
-fn sheet(mut words: Words) -> Option<String> {
+fn sheet(words: Words) -> Option<String> {
+    read_sheet(words, calls::sheet)
+}
+
+/// `kinds ENTRIES CHANGES CODE_INDENTED RAW RESULTS ALIGNMENTS HEX`
+fn sheet_with(mut words: Words) -> Option<String> {
+    let (entries, changes) = (words.number()?, words.bytes()?);
+    let kinds = kinds::table(entries, &changes)?;
+    read_sheet(words, |sheet, code_indented, slots| calls::sheet_with(&kinds, sheet, code_indented, slots))
+}
+
+/// The words of a sheet request, and its answer by a call.
+fn read_sheet(mut words: Words, call: impl Fn(&[u8], bool, &SheetSlots) -> Result<Sheet, u8>) -> Option<String> {
     let code_indented = words.flag()?;
     let slots = SheetSlots { raw: words.number()?, results: words.number()?, alignments: words.number()? };
     let bytes = words.bytes()?;
     words.end()?;
-    Some(match calls::sheet(&bytes, code_indented, &slots) {
+    Some(match call(&bytes, code_indented, &slots) {
         Ok(read) => {
             let counts = [read.tables, read.raw.len(), read.results.len(), read.alignments.len()];
             let [tables, events, results, alignments] = counts;

@@ -1,4 +1,4 @@
-//! The questions that are document 01's own: 1, 2 and 8 to 14, written from its text.
+//! The questions that are document 01's own: 1, 2 and 8 to 14, written from its text, and request U9's 20 to 22, from that text.
 //! Questions 3 to 7 are not asked here: the crate refuses by them, and `watch.rs` tells their numbers.
 
 use crate::lines::Line;
@@ -134,4 +134,24 @@ fn values_alternate(row: &[Record]) -> bool {
         }
     }
     false
+}
+
+/// 20. Are there 256 entries, and no kind above 6?
+pub fn are_kinds(kinds: &[u8]) -> bool {
+    kinds.len() == 256 && kinds.iter().all(|&kind| kind <= 6)
+}
+
+/// 21. Are bytes 9 and 32 exactly those of kind 1, and bytes 10 and 13 exactly those of kind 2?
+pub fn has_whitespace_kinds(kinds: &[u8]) -> bool {
+    bytes_of(kinds, 1) == [9, 32] && bytes_of(kinds, 2) == [10, 13]
+}
+
+/// 22. Has each of kinds 3 to 6 exactly one byte, and is the kind of the `>` byte 0?
+pub fn has_punctuation_kinds(kinds: &[u8]) -> bool {
+    (3..=6).all(|kind| bytes_of(kinds, kind).len() == 1) && kinds[62] == 0
+}
+
+/// The bytes of a kind, rising.
+fn bytes_of(kinds: &[u8], kind: u8) -> Vec<usize> {
+    (0..kinds.len()).filter(|&byte| kinds[byte] == kind).collect()
 }

@@ -5,6 +5,7 @@ use crate::calls::{self, SheetSlots};
 use crate::drive::Flags;
 use crate::kept::random::Random;
 use crate::kept::{self, sheet_cases};
+use crate::kinds::{self, BUILT_IN};
 use crate::print;
 use crate::protocol::answer;
 use crate::record::{self, Record};
@@ -145,6 +146,100 @@ fn mark_moves_indices_alone() {
 }
 
 #[test]
+fn tables_of_kinds_refused() {
+    for (label, number, entries, changes) in kept::kinds::REFUSED {
+        let changes: Vec<u8> = changes.iter().flat_map(|&(byte, kind)| [byte, kind]).collect();
+        let table = format!("{entries} {}", print::bytes(&changes));
+        let refused = |slots: &str| format!("{number} 0 0 0 0{slots}");
+        assert_eq!(asked(&format!("kinds {table} 1 2 1 3"), "a\n:-"), refused(" | +2 | +1 | +3"), "{label}");
+        assert_eq!(asked(&format!("kinds {table} 1 0 0 0"), "a\n:-"), refused(" | +0 | +0 | +0"), "{label}");
+        // Before question 1.
+        assert_eq!(
+            asked(&format!("kinds {table} 1 0 0 0"), &"a".repeat(65_537)),
+            refused(" | +0 | +0 | +0"),
+            "{label}"
+        );
+    }
+    assert_eq!(asked("kinds 256 - 1 0 0 0", &"a".repeat(65_537)), "1 0 0 0 0 | +0 | +0 | +0");
+    assert_eq!(asked("kinds 256 7c003b03 1 13 0 0", "a\n-;"), "9 0 0 0 0 | +13 | +0 | +0");
+}
+
+/// Every single change of the built-in table, by 02's words.
+#[test]
+fn single_changes_of_kinds() {
+    for (byte, kind) in (0..256).flat_map(|byte| (0..=u8::MAX).map(move |kind| (byte, kind))) {
+        let mut kinds = BUILT_IN;
+        kinds[byte] = kind;
+        let expected = match (BUILT_IN[byte], kind) {
+            (old, new) if old == new => None,
+            (_, 7..) => Some(20),
+            (1 | 2, _) | (_, 1 | 2) => Some(21),
+            _ => Some(22),
+        };
+        assert_eq!(calls::sheet_with(&kinds, b"", true, &MANY).err(), expected, "{byte} {kind}");
+    }
+}
+
+#[test]
+fn kinds_in_own_bytes() {
+    let read = |kinds: &[u8], text: &str| calls::sheet_with(kinds, text.as_bytes(), true, &MANY).unwrap();
+    for (label, own, built_in, tables) in [
+        ("builtin", "a|b\n-|-\nc", "a|b\n-|-\nc", 1),
+        ("semicolon", "a;b\n-;-\nc|d", "a|b\n-|-\ncxd", 1),
+        ("semicolon", "a|b\n-|-", "axb\n-x-", 0),
+        ("semicolon", "a\\;b\n:-\n\\|;", "a\\|b\n:-\n\\x|", 1),
+        ("semicolon", "\u{feff}a;b\r\n-;-\r\n> c;\r\nd", "\u{feff}a|b\r\n-|-\r\n> c|\r\nd", 1),
+        ("equals", "a|-\n=|:=", "a|x\n-|:-", 1),
+        ("slash", "a\\|b/|\n-|-", "ax|b\\|\n-|-", 1),
+        ("allfour", "a;b\n=;,=\nc/;|:-\\", "a|b\n-|:-\nc\\|xxxx", 1),
+        ("letters", "axb\nkmxm\ncexd-", "a|b\n:-|-\nc\\|dy", 1),
+        ("round", "a:b\n-\\:\\-\n|:c:d", "a|b\n:-|-:\n\\|c|d", 1),
+        ("zeropipe", "a\0b\n-\0-\n|\0", "a|b\n-|-\nx|", 1),
+    ] {
+        let kinds = kept::kinds::passing_of(label);
+        assert_eq!(read(&kinds, own), read(&BUILT_IN, built_in), "{label} {own:?}");
+        assert_eq!(read(&kinds, own).tables, tables, "{label} {own:?}");
+    }
+    // The mark's bytes as pipe, hyphen and colon: the first three are passed over.
+    let mark = calls::sheet_with(&kept::kinds::passing_of("mark"), &BOM.repeat(2), true, &MANY).unwrap();
+    assert_eq!(mark.tables, 0);
+    let sheet = [&BOM[..], &BOM, b"\n", &BOM].concat();
+    let mark = calls::sheet_with(&kept::kinds::passing_of("mark"), &sheet, true, &MANY).unwrap();
+    assert_eq!(mark, read(&BUILT_IN, "\u{feff}|-:\n|-:"));
+    assert_eq!((mark.tables, mark.alignments), (1, vec![3]));
+}
+
+#[test]
+fn built_in_kinds_change_nothing() {
+    for sheet in sheet_cases::by_hand().iter().chain(&sheet_cases::MARKED.map(|(_, sheet)| sheet.to_vec())) {
+        for code_indented in [true, false] {
+            let with = calls::sheet_with(&BUILT_IN, sheet, code_indented, &MANY);
+            assert_eq!(with, calls::sheet(sheet, code_indented, &MANY), "{sheet:?}");
+        }
+    }
+}
+
+/// Each byte becomes one whose built-in kind is the kind that it has, no two the same, and what the table cannot name stays.
+#[test]
+fn exchange_keeps_kinds() {
+    let mut random = Random::new(11);
+    let by_hand = kept::kinds::PASSING.iter().map(|(label, _)| kept::kinds::passing_of(label));
+    let drawn: Vec<Vec<u8>> = (0..500).map(|_| kept::kinds::passing(&mut random)).collect();
+    for table in by_hand.chain(drawn) {
+        let bytes = kinds::to_built_in(&table);
+        assert!((0..256).all(|byte| BUILT_IN[usize::from(bytes[byte])] == table[byte]), "{table:?}");
+        assert!([9, 10, 13, 32, 62].iter().all(|&byte| usize::from(bytes[byte]) == byte), "{table:?}");
+        let mut sorted = bytes;
+        sorted.sort_unstable();
+        assert!((0..256).all(|byte| usize::from(sorted[byte]) == byte), "{table:?}");
+        let sheet = sheet_cases::tabular(&mut random, 4);
+        let written = kinds::written(&sheet, &table);
+        assert_eq!(kinds::exchanged(&written, &bytes), sheet);
+        assert_eq!(kinds::table(256, &kinds::changes(&table)), Some(table));
+    }
+}
+
+#[test]
 fn list_refusals_in_order() {
     let list = "1,1,0,0,0,0,0";
     assert_eq!(answer(&format!("resolve 0 {list}")), "10 0 | +0");
@@ -173,6 +268,14 @@ fn unreadable_requests() {
         "sheet 1 1 1 1 61 ",
         "edit 1 1 0 0 1 1",
         "align 18446744073709551616 0",
+        "kinds 256 - 1 1 1 1",
+        "kinds 256 1 1 1 1 61",
+        "kinds 256 7c 1 1 1 1 61",
+        "kinds 256 7C00 1 1 1 1 61",
+        "kinds 256 7c003b 1 1 1 1 61",
+        "kinds 255 ff00 1 1 1 1 61",
+        "kinds 0 0000 1 1 1 1 61",
+        "kinds 301 - 1 1 1 1 61",
     ] {
         assert_eq!(answer(request), "?", "{request}");
     }

@@ -3,7 +3,7 @@
 //! All slots that are lent for an answer are written: the answer first, then blank records, or zeros. Refused, all are blank. Edit slots
 //! are no such slots.
 
-use crate::{ffi, Event, Refusal};
+use crate::{ffi, Event, Refusal, KINDS};
 
 /// What an accepted head has.
 #[derive(Clone, Copy, Debug, PartialEq, Eq)]
@@ -135,12 +135,26 @@ pub fn sheet(
     results: &mut [Event],
     alignments: &mut [u8],
 ) -> Result<Sheet, Refusal> {
+    sheet_with(&KINDS, sheet, code_indented, raw, results, alignments)
+}
+
+/// The same with a firm's own table of kinds, which is tested first; [`KINDS`] says which tables pass.
+pub fn sheet_with(
+    kinds: &[u8],
+    sheet: &[u8],
+    code_indented: bool,
+    raw: &mut [Event],
+    results: &mut [Event],
+    alignments: &mut [u8],
+) -> Result<Sheet, Refusal> {
     let mut counts = [0; 4];
     // SAFETY: each pointer and length is that of a slice, and what is written is borrowed for it alone.
     let number = unsafe {
         ffi::poolsheet_sheet(
             sheet.as_ptr(),
             sheet.len(),
+            kinds.as_ptr(),
+            kinds.len(),
             code_indented,
             raw.as_mut_ptr(),
             raw.len(),

@@ -64,6 +64,8 @@ extern "C" {
     pub fn poolsheet_sheet(
         sheet: *const u8,
         sheet_len: usize,
+        kinds: *const u8,
+        kinds_len: usize,
         code_indented: bool,
         raw: *mut Event,
         raw_len: usize,
@@ -78,34 +80,56 @@ extern "C" {
 #[cfg(test)]
 mod tests {
     use super::*;
+    use crate::KINDS;
+
+    /// The number and the counts of `a`, `:-`, read under so many of the built-in kinds, one of them changed, with one slot of each sort.
+    fn sheet_counts(kinds: usize, byte: u8, kind: u8) -> (u8, [usize; 4]) {
+        let (sheet, mut counts) = (b"a\n:-", [7; 4]);
+        let (mut raw, mut results, mut alignments) = ([Event::BLANK; 1], [Event::BLANK; 1], [0; 1]);
+        let mut table = KINDS;
+        table[usize::from(byte)] = kind;
+        // SAFETY: each pointer and length is that of an array, or a part of one, that is borrowed for the call alone.
+        let number = unsafe {
+            poolsheet_sheet(
+                sheet.as_ptr(),
+                sheet.len(),
+                table.as_ptr(),
+                kinds,
+                true,
+                raw.as_mut_ptr(),
+                raw.len(),
+                results.as_mut_ptr(),
+                results.len(),
+                alignments.as_mut_ptr(),
+                alignments.len(),
+                &mut counts,
+            )
+        };
+        (number, counts)
+    }
 
     /// Refused, every count is 0, whatever it was before.
+    #[test]
+    fn counts_of_refused_sheets() {
+        assert_eq!(sheet_counts(256, b'a', 0), (9, [0; 4]));
+        assert_eq!(sheet_counts(255, b'a', 0), (20, [0; 4]));
+        assert_eq!(sheet_counts(256, b'a', 7), (20, [0; 4]));
+        assert_eq!(sheet_counts(256, b'a', 1), (21, [0; 4]));
+        assert_eq!(sheet_counts(256, b'a', 3), (22, [0; 4]));
+    }
+
+    /// The same of the other calls.
     #[test]
     fn counts_of_refusals() {
         let (sheet, mut slots, mut bytes) = (b"a\n:-", [Event::BLANK; 1], [0; 1]);
         let (p, n) = (sheet.as_ptr(), sheet.len());
-        let (mut one, mut two, mut three, mut four) = ([7; 1], [7; 2], [7; 3], [7; 4]);
+        let (mut one, mut two, mut three) = ([7; 1], [7; 2], [7; 3]);
         let (list, results) = ([Event::BLANK; 1], slots.as_mut_ptr());
         // SAFETY: each pointer and length is that of an array that is borrowed for the call alone.
         unsafe {
             assert_eq!(poolsheet_head(p, n, 0, true, false, false, results, 1, &mut three), 9);
             assert_eq!(poolsheet_row(p, n, 0, false, results, 1, &mut two), 9);
-            assert_eq!(
-                poolsheet_sheet(
-                    p,
-                    n,
-                    true,
-                    results,
-                    1,
-                    [Event::BLANK; 1].as_mut_ptr(),
-                    1,
-                    bytes.as_mut_ptr(),
-                    1,
-                    &mut four
-                ),
-                9
-            );
-            assert_eq!((three, two, four), ([0; 3], [0; 2], [0; 4]));
+            assert_eq!((three, two), ([0; 3], [0; 2]));
             assert_eq!(poolsheet_resolve(list.as_ptr(), 1, results, 1, &mut one), 10);
             assert_eq!(one, [0]);
             one = [7];

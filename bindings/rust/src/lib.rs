@@ -13,6 +13,9 @@
 //!
 //! A byte order mark before the first line is passed over, so that the first header has its name; offsets count it.
 //!
+//! [`KINDS`] says which byte is the pipe, the backslash, the hyphen and the colon. A firm that writes others has a table of its own, and
+//! [`read_sheet_with`] takes it.
+//!
 //! [`calls`] has the library's six calls as they are, over slots that the caller lends, and [`ffi`] their C declarations.
 //!
 //! The library is linked for x86-64 Linux.
@@ -22,12 +25,14 @@
 pub mod calls;
 mod event;
 pub mod ffi;
+mod kinds;
 mod refusal;
 mod table;
 
 pub use event::{Alignment, Event, Name};
+pub use kinds::KINDS;
 pub use refusal::Refusal;
-pub use table::{read_sheet, Cell, Row, Sheet, Table};
+pub use table::{read_sheet, read_sheet_with, Cell, Row, Sheet, Table};
 
 /// The longest sheet that is read, in bytes.
 pub const SHEET_MAX: usize = 65_536;

@@ -35,11 +35,17 @@ pub enum Refusal {
     NoTableToAlign = 13,
     /// Are there alignment slots?
     TooFewAlignmentSlots = 14,
+    /// Has the table of kinds 256 entries, none above 6?
+    NoKindTable = 20,
+    /// Are bytes 9 and 32 exactly those of kind 1, and bytes 10 and 13 exactly those of kind 2?
+    WhitespaceKindsDiffer = 21,
+    /// Has each of the kinds 3 to 6 exactly one byte, and the byte `>` kind 0?
+    PunctuationKindsDiffer = 22,
 }
 
 impl Refusal {
     /// Every refusal, by rising number.
-    pub const ALL: [Refusal; 14] = [
+    pub const ALL: [Refusal; 17] = [
         Refusal::SheetTooLong,
         Refusal::NoLineStart,
         Refusal::IndentTooWide,
@@ -54,9 +60,12 @@ impl Refusal {
         Refusal::TooFewResultSlots,
         Refusal::NoTableToAlign,
         Refusal::TooFewAlignmentSlots,
+        Refusal::NoKindTable,
+        Refusal::WhitespaceKindsDiffer,
+        Refusal::PunctuationKindsDiffer,
     ];
 
-    /// The number of the question, 1 to 14.
+    /// The number of the question, 1 to 14 or 20 to 22.
     pub const fn number(self) -> u8 {
         self as u8
     }
@@ -70,7 +79,7 @@ impl Refusal {
     pub(crate) fn answer(number: u8) -> Result<(), Refusal> {
         match number {
             0 => Ok(()),
-            _ => Err(Refusal::from_number(number).expect("the library's numbers are at most 14")),
+            _ => Err(Refusal::from_number(number).expect("the library has no other numbers")),
         }
     }
 
@@ -93,6 +102,13 @@ impl Refusal {
             Refusal::TooFewResultSlots => "more result slots are needed than were lent",
             Refusal::NoTableToAlign => "the event enters no table, or no whole delimiter row follows it",
             Refusal::TooFewAlignmentSlots => "more alignment slots are needed than were lent",
+            Refusal::NoKindTable => "the table of kinds has more or fewer than 256 entries, or a kind above 6",
+            Refusal::WhitespaceKindsDiffer => {
+                "the bytes of kind 1 are not tab and space, or those of kind 2 not line feed and carriage return"
+            }
+            Refusal::PunctuationKindsDiffer => {
+                "one of the kinds 3 to 6 has no byte or several, or the byte > has one of them"
+            }
         }
     }
 }

@@ -2,7 +2,7 @@
 
 use std::ops::Range;
 
-use crate::{alignment_slots, calls, raw_slots, result_slots, Alignment, Event, Name, Refusal, SHEET_MAX};
+use crate::{alignment_slots, calls, raw_slots, result_slots, Alignment, Event, Name, Refusal, KINDS, SHEET_MAX};
 
 /// A sheet that was read.
 #[derive(Clone, Debug)]
@@ -40,21 +40,35 @@ pub struct Cell<'s> {
 ///
 /// The only refusal is [`Refusal::SheetTooLong`]: slots that usually suffice are lent first, and where they do not, slots that always do.
 pub fn read_sheet(sheet: &[u8], code_indented: bool) -> Result<Sheet<'_>, Refusal> {
+    read_sheet_with(&KINDS, sheet, code_indented)
+}
+
+/// The same with a firm's own table of kinds, which is tested first; [`KINDS`] says which tables pass.
+///
+/// Refuses by [`Refusal::NoKindTable`], [`Refusal::WhitespaceKindsDiffer`], [`Refusal::PunctuationKindsDiffer`] and then
+/// [`Refusal::SheetTooLong`].
+pub fn read_sheet_with<'s>(kinds: &[u8], sheet: &'s [u8], code_indented: bool) -> Result<Sheet<'s>, Refusal> {
     let n = if sheet.len() <= SHEET_MAX { sheet.len() } else { 0 };
-    match read_with(sheet, code_indented, n + 64, n + n / 2 + 96) {
+    match read_into(kinds, sheet, code_indented, n + 64, n + n / 2 + 96) {
         Err(Refusal::TooFewRawSlots | Refusal::TooFewResultSlots) => {
-            read_with(sheet, code_indented, raw_slots(n), result_slots(n))
+            read_into(kinds, sheet, code_indented, raw_slots(n), result_slots(n))
         }
         answer => answer,
     }
 }
 
-/// Reads a whole sheet with so many raw slots and result slots.
-fn read_with(sheet: &[u8], code_indented: bool, raw: usize, results: usize) -> Result<Sheet<'_>, Refusal> {
+/// Reads a whole sheet into so many raw slots and result slots.
+fn read_into<'s>(
+    kinds: &[u8],
+    sheet: &'s [u8],
+    code_indented: bool,
+    raw: usize,
+    results: usize,
+) -> Result<Sheet<'s>, Refusal> {
     let mut raw = vec![Event::BLANK; raw];
     let mut results = vec![Event::BLANK; results];
     let mut alignments = vec![0; alignment_slots(sheet.len().min(SHEET_MAX))];
-    let counts = calls::sheet(sheet, code_indented, &mut raw, &mut results, &mut alignments)?;
+    let counts = calls::sheet_with(kinds, sheet, code_indented, &mut raw, &mut results, &mut alignments)?;
     raw.truncate(counts.events);
     results.truncate(counts.results);
     alignments.truncate(counts.alignments);

@@ -1,11 +1,20 @@
 //! The six calls: what they accept, and that a refusal blanks every slot.
 
-use poolsheet::{calls, Alignment, Event, Name, Refusal};
+use poolsheet::{calls, Alignment, Event, Name, Refusal, KINDS};
 
 /// A record that no call leaves in a slot.
 const STALE: Event = Event { kind: 9, name: 99, line: 9, column: 9, index: 9, vs: 9, link: 9 };
 
 const SHEET: &[u8] = b"a|b\n:-|-\nc";
+
+/// The built-in table with some bytes of other kinds.
+fn changed(changes: &[(u8, u8)]) -> Vec<u8> {
+    let mut kinds = KINDS.to_vec();
+    for &(byte, kind) in changes {
+        kinds[usize::from(byte)] = kind;
+    }
+    kinds
+}
 
 /// The raw events and the result events of a sheet.
 fn events(sheet: &[u8]) -> (Vec<Event>, Vec<Event>) {
@@ -199,4 +208,97 @@ fn sheet_refused() {
         assert!(all_blank(&raw) && all_blank(&results) && alignments.iter().all(|&slot| slot == 0), "{refusal:?}");
     }
     assert_eq!(poolsheet::read_sheet(&long, true).unwrap_err(), Refusal::SheetTooLong);
+}
+
+#[test]
+fn sheet_with_kinds() {
+    let of_pipes = events(SHEET);
+    for (kinds, sheet) in [
+        (KINDS.to_vec(), SHEET),
+        (changed(&[(b'|', 3)]), SHEET),
+        (changed(&[(b';', 3), (b'|', 0)]), b"a;b\n:-;-\nc"),
+        (changed(&[(b';', 3), (b'|', 0)]), b"|;b\n:-;-\n|"),
+        (changed(&[(b'=', 5), (b'-', 0), (b',', 6), (b':', 0)]), b"a|b\n,=|=\n-"),
+        (changed(&[(b'|', 6), (b':', 3)]), b"a:b\n|-:-\nc"),
+        (changed(&[(0, 3), (b'|', 0), (255, 5), (b'-', 0)]), b"a\0b\n:\xff\0\xff\nc"),
+        (changed(&[(b'c', 4), (b'\\', 0)]), b"a|\\\n:-|-\nc"),
+    ] {
+        let (mut raw, mut results, mut alignments) = (stale(30), stale(60), [9; 4]);
+        let given = kinds.clone();
+        assert_eq!(
+            calls::sheet_with(&kinds, sheet, true, &mut raw, &mut results, &mut alignments),
+            Ok(calls::Sheet { tables: 1, events: 28, results: 52, alignments: 2 })
+        );
+        assert_eq!((&raw[..28], &results[..52]), (&of_pipes.0[..], &of_pipes.1[..]));
+        assert!(all_blank(&raw[28..]) && all_blank(&results[52..]));
+        assert_eq!(alignments, [2, 1, 0, 0]);
+        assert_eq!(kinds, given);
+    }
+}
+
+#[test]
+fn kinds_refused() {
+    let long = vec![b'a'; 65_537];
+    let cases: [(Vec<u8>, Refusal); 20] = [
+        (vec![], Refusal::NoKindTable),
+        (KINDS[..255].to_vec(), Refusal::NoKindTable),
+        ([&KINDS[..], &[0]].concat(), Refusal::NoKindTable),
+        (changed(&[(0, 7)]), Refusal::NoKindTable),
+        (changed(&[(255, 255)]), Refusal::NoKindTable),
+        // All three faults, and two of them.
+        (changed(&[(b'z', 7), (b' ', 0), (b'|', 0)]), Refusal::NoKindTable),
+        (changed(&[(b' ', 0), (b'|', 0)])[..255].to_vec(), Refusal::NoKindTable),
+        (changed(&[(b' ', 0), (b'|', 0)]), Refusal::WhitespaceKindsDiffer),
+        (changed(&[(b'\t', 0)]), Refusal::WhitespaceKindsDiffer),
+        (changed(&[(b'\r', 1)]), Refusal::WhitespaceKindsDiffer),
+        (changed(&[(11, 1)]), Refusal::WhitespaceKindsDiffer),
+        (changed(&[(12, 2)]), Refusal::WhitespaceKindsDiffer),
+        (changed(&[(b'>', 1)]), Refusal::WhitespaceKindsDiffer),
+        (changed(&[(b'|', 0)]), Refusal::PunctuationKindsDiffer),
+        (changed(&[(b'/', 4)]), Refusal::PunctuationKindsDiffer),
+        (changed(&[(b'-', 0)]), Refusal::PunctuationKindsDiffer),
+        (changed(&[(b'-', 6)]), Refusal::PunctuationKindsDiffer),
+        (changed(&[(b':', 3)]), Refusal::PunctuationKindsDiffer),
+        (changed(&[(b'>', 3), (b'|', 0)]), Refusal::PunctuationKindsDiffer),
+        (changed(&[(b'>', 6), (b':', 0)]), Refusal::PunctuationKindsDiffer),
+    ];
+    for (kinds, refusal) in cases {
+        // Before questions 1, 9, 12 and 14.
+        for (sheet, [n, m, k]) in [(SHEET, [30, 60, 4]), (SHEET, [0, 0, 0]), (&long, [2, 1, 3])] {
+            let (mut raw, mut results, mut alignments) = (stale(n), stale(m), vec![9; k]);
+            let given = kinds.clone();
+            let answer = calls::sheet_with(&kinds, sheet, true, &mut raw, &mut results, &mut alignments);
+            assert_eq!(answer, Err(refusal), "{} entries", kinds.len());
+            assert!(all_blank(&raw) && all_blank(&results) && alignments.iter().all(|&slot| slot == 0), "{refusal:?}");
+            assert_eq!(kinds, given);
+            assert_eq!(poolsheet::read_sheet_with(&kinds, sheet, true).unwrap_err(), refusal);
+        }
+    }
+}
+
+#[test]
+fn sheet_with_kinds_refused() {
+    let kinds = changed(&[(b';', 3), (b'|', 0)]);
+    let long = vec![b';'; 65_537];
+    let cases: [(&[u8], [usize; 3], Refusal); 4] = [
+        (&long, [30, 60, 4], Refusal::SheetTooLong),
+        (b"a;b\n:-;-\nc", [27, 51, 1], Refusal::TooFewRawSlots),
+        (b"a;b\n:-;-\nc", [28, 51, 1], Refusal::TooFewResultSlots),
+        (b"a;b\n:-;-\nc", [28, 52, 1], Refusal::TooFewAlignmentSlots),
+    ];
+    for (sheet, [n, m, k], refusal) in cases {
+        let (mut raw, mut results, mut alignments) = (stale(n), stale(m), vec![9; k]);
+        let answer = calls::sheet_with(&kinds, sheet, true, &mut raw, &mut results, &mut alignments);
+        assert_eq!(answer, Err(refusal));
+        assert!(all_blank(&raw) && all_blank(&results) && alignments.iter().all(|&slot| slot == 0), "{refusal:?}");
+    }
+    assert_eq!(poolsheet::read_sheet_with(&kinds, &long, true).unwrap_err(), Refusal::SheetTooLong);
+}
+
+/// Heads and rows are read with the built-in table.
+#[test]
+fn head_and_row_keep_their_kinds() {
+    let mut raw = stale(24);
+    assert_eq!(calls::head(b"a;b\n:-;-", 0, true, false, false, &mut raw), Err(Refusal::NoDelimiterRow));
+    assert_eq!(calls::row(b"a;b", 0, false, &mut raw), Ok(calls::Row { events: 4, end: 3 }));
 }

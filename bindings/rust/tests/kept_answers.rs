@@ -5,7 +5,7 @@ use std::fs;
 use std::path::Path;
 use std::str::{FromStr, SplitAsciiWhitespace};
 
-use poolsheet::{calls, Event, Refusal};
+use poolsheet::{calls, Event, Refusal, KINDS};
 
 /// A record that no call leaves in a slot.
 const STALE: Event = Event { kind: 9, name: 99, line: 9, column: 9, index: 9, vs: 9, link: 9 };
@@ -33,6 +33,16 @@ impl Words<'_> {
     fn bytes(&mut self) -> Vec<u8> {
         let hex = self.word().trim_start_matches('-').as_bytes();
         hex.chunks(2).map(|pair| u8::from_str_radix(std::str::from_utf8(pair).unwrap(), 16).unwrap()).collect()
+    }
+
+    /// So many entries of the built-in table and then 0, with the bytes changed that follow in pairs with their kinds.
+    fn kinds(&mut self) -> Vec<u8> {
+        let mut kinds = KINDS.to_vec();
+        kinds.resize(self.number(), 0);
+        for change in self.bytes().chunks(2) {
+            kinds[usize::from(change[0])] = change[1];
+        }
+        kinds
     }
 
     fn events(&mut self, n: usize) -> Vec<Event> {
@@ -131,10 +141,22 @@ fn align(words: &mut Words) -> String {
 }
 
 fn sheet(words: &mut Words) -> String {
+    read(words, calls::sheet)
+}
+
+fn kinds(words: &mut Words) -> String {
+    let kinds = words.kinds();
+    read(words, |sheet, on, raw, results, alignments| calls::sheet_with(&kinds, sheet, on, raw, results, alignments))
+}
+
+fn read(
+    words: &mut Words,
+    call: impl Fn(&[u8], bool, &mut [Event], &mut [Event], &mut [u8]) -> Result<calls::Sheet, Refusal>,
+) -> String {
     let (on, mut raw, mut results, mut alignments) =
         (words.yes(), words.slots(), words.slots(), vec![9; words.number()]);
     let sheet = words.bytes();
-    let answer = calls::sheet(&sheet, on, &mut raw, &mut results, &mut alignments);
+    let answer = call(&sheet, on, &mut raw, &mut results, &mut alignments);
     let mut out = said(answer.map(|sheet| [sheet.tables, sheet.events, sheet.results, sheet.alignments]));
     show_events(&mut out, &raw);
     show_events(&mut out, &results);
@@ -148,7 +170,7 @@ fn replay(name: &str, call: fn(&mut Words) -> String) {
     let requests = fs::read_to_string(path.with_extension("requests")).unwrap();
     let answers = fs::read_to_string(path.with_extension("answers")).unwrap();
     assert_eq!(requests.lines().count(), answers.lines().count());
-    assert!(requests.lines().count() > 500);
+    assert!(requests.lines().count() > 300);
     for (request, kept) in requests.lines().zip(answers.lines()) {
         let mut words = Words(request.split_ascii_whitespace());
         assert_eq!(words.word(), name);
@@ -184,4 +206,9 @@ fn aligned() {
 #[test]
 fn sheets() {
     replay("sheet", sheet);
+}
+
+#[test]
+fn sheets_with_kinds() {
+    replay("kinds", kinds);
 }

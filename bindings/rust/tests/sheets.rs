@@ -4,7 +4,7 @@ use std::fmt::Write;
 use std::fs;
 use std::path::Path;
 
-use poolsheet::{read_sheet, Alignment, Row, Sheet};
+use poolsheet::{read_sheet, read_sheet_with, Alignment, Row, Sheet, KINDS};
 
 /// The lines of a row's cells: the letter, the line, and offset and length of the text.
 fn list_row(out: &mut String, letter: char, row: &Row) {
@@ -138,4 +138,65 @@ fn marked_sheet() {
 fn indented_head() {
     assert_eq!(read_sheet(b"    a\n:-", true).unwrap().tables().len(), 0);
     assert_eq!(read_sheet(b"    a\n:-", false).unwrap().tables().len(), 1);
+}
+
+/// A table of kinds in which pairs of bytes are exchanged, and a sheet in which they are; a byte order mark stays.
+fn exchanged(sheet: &[u8], pairs: &[(u8, u8)]) -> (Vec<u8>, Vec<u8>) {
+    let (mut kinds, mut sheet) = (KINDS.to_vec(), sheet.to_vec());
+    let start = if sheet.starts_with(b"\xef\xbb\xbf") { 3 } else { 0 };
+    for &(one, other) in pairs {
+        kinds.swap(one.into(), other.into());
+        for byte in &mut sheet[start..] {
+            *byte = match *byte {
+                byte if byte == one => other,
+                byte if byte == other => one,
+                byte => byte,
+            };
+        }
+    }
+    (kinds, sheet)
+}
+
+/// The repository's sheets with other bytes for pipe, backslash, hyphen and colon have the listings that are kept.
+#[test]
+fn kept_listings_in_other_bytes() {
+    let folder = Path::new(env!("CARGO_MANIFEST_DIR")).join("../../sheets");
+    for name in ["mail", "checkout", "images"] {
+        let bytes = fs::read(folder.join(name).with_extension("md")).unwrap();
+        let kept = fs::read_to_string(folder.join(name).with_extension("roster")).unwrap();
+        let choices: [&[(u8, u8)]; 6] = [
+            &[],
+            &[(b'|', b';')],
+            &[(b'|', b';'), (b'\\', b'/'), (b'-', b'='), (b':', b',')],
+            &[(b'|', b':'), (b'\\', b'-')],
+            &[(b'|', 0), (b'-', 255)],
+            &[(b'|', 0xef), (b'-', 0xbb), (b':', 0xbf)],
+        ];
+        for pairs in choices {
+            let (kinds, sheet) = exchanged(&bytes, pairs);
+            assert_eq!(listing(&read_sheet_with(&kinds, &sheet, true).unwrap()), kept, "{name} {pairs:?}");
+        }
+    }
+}
+
+#[test]
+fn own_kinds() {
+    let (kinds, _) = exchanged(b"", &[(b'|', b';')]);
+    let sheet = read_sheet_with(&kinds, b"server;state\n-;-\nweb|1;up\nweb\\;2;down\n> a;b\nc", true).unwrap();
+    assert_eq!(sheet.tables().len(), 1);
+    assert_eq!(sheet.tables()[0].column(0).collect::<Vec<_>>(), [&b"web|1"[..], b"web\\;2"]);
+    assert_eq!(sheet.tables()[0].column(1).collect::<Vec<_>>(), [&b"up"[..], b"down"]);
+    assert_eq!(read_sheet_with(&kinds, b"server|state\n-|-", true).unwrap().tables().len(), 0);
+
+    // A backslash of kind 0 is text; the byte of kind 4 escapes.
+    let (kinds, _) = exchanged(b"", &[(b'\\', b'/')]);
+    let sheet = read_sheet_with(&kinds, b"a\\|b/|c\n-|-", true).unwrap();
+    let header: Vec<&[u8]> = sheet.tables()[0].header().cells().iter().map(|cell| cell.text()).collect();
+    assert_eq!(header, [&b"a\\"[..], b"b/|c"]);
+
+    // The mark is passed over though its first byte is the pipe.
+    let (kinds, _) = exchanged(b"", &[(b'|', 0xef)]);
+    let sheet = read_sheet_with(&kinds, b"\xef\xbb\xbfa\xefb\n-\xef-", true).unwrap();
+    assert_eq!(sheet.tables()[0].header().cells()[0].range(), Some(3..4));
+    assert_eq!(sheet.tables()[0].header().cells().len(), 2);
 }

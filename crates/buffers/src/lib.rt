@@ -8,6 +8,7 @@ use tokenizer::slots::at_or_blank;
 ghost use mathlib.Core.Path.{_≡_};
 ghost use mathlib.Core.Bool.{_||_};
 ghost use lib.ListN.{length};
+ghost use Rattle.tokenizer.specs.Bytes.{kindOf};
 ghost use Rattle.gfm_table.specs.Calls.{headOf, rowOf};
 ghost use Rattle.buffers.specs.Buffers.{leastOf, headLeft, headSmallOf, headLongOf, rowLeft, rowSmallOf, rowLongOf};
 
@@ -55,7 +56,7 @@ pub fn head_front(
     n: usize,
     raw: &mut [Event],
 ) -> Head
-    ensures { λ r. ⌜ (r ≡ headOf (now (sheet .entry)) offset «code_indented» (lazy || pierced) (leastOf n (length (now (raw .entry))))) × (now (raw .exit) ≡ headLeft (now (sheet .entry)) offset «code_indented» (lazy || pierced) n (now (raw .entry))) ⌝ }
+    ensures { λ r. ⌜ (r ≡ headOf kindOf (now (sheet .entry)) offset «code_indented» (lazy || pierced) (leastOf n (length (now (raw .entry))))) × (now (raw .exit) ≡ headLeft (now (sheet .entry)) offset «code_indented» (lazy || pierced) n (now (raw .entry))) ⌝ }
 {
     let k = least(n, raw.len());
     head(sheet, offset, code_indented, lazy, pierced, &mut raw[..k])
@@ -103,7 +104,7 @@ pub fn head_long(
 
 // A row, with the first n slots, or all where there are fewer.
 pub fn row_front(sheet: &[u8], offset: usize, lazy: bool, n: usize, raw: &mut [Event]) -> Row
-    ensures { λ r. ⌜ (r ≡ rowOf (now (sheet .entry)) offset lazy (leastOf n (length (now (raw .entry))))) × (now (raw .exit) ≡ rowLeft (now (sheet .entry)) offset lazy n (now (raw .entry))) ⌝ }
+    ensures { λ r. ⌜ (r ≡ rowOf kindOf (now (sheet .entry)) offset lazy (leastOf n (length (now (raw .entry))))) × (now (raw .exit) ≡ rowLeft (now (sheet .entry)) offset lazy n (now (raw .entry))) ⌝ }
 {
     let k = least(n, raw.len());
     row(sheet, offset, lazy, &mut raw[..k])

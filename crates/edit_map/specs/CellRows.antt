@@ -48,13 +48,14 @@ insideOf Body = rowInner
 
 -- ## One step
 
--- where a cell's text is left that has reached the end of a piece
-abbrev pub textLeft : List ℕ → Placed → Event
-textLeft s x = let p = pointIn 0 (x .end) (x .column) in lastAhead (record { entry = enter Data p; exit = leave Data p }) (passed p (piecesFrom s (x .end))) .exit
+module _ (kind : ℕ → ℕ) where
+  -- where a cell's text is left that has reached the end of a piece
+  abbrev pub textLeft : List ℕ → Placed → Event
+  textLeft s x = let p = pointIn 0 (x .end) (x .column) in lastAhead (record { entry = enter Data p; exit = leave Data p }) (passed p (piecesFrom kind s (x .end))) .exit
 
--- a piece, or the whole text that it begins
-abbrev pub reachOf : List ℕ → Placed → Placed
-reachOf s x = cond (eqb (x .name) Data) (record { name = x .name; end = textLeft s x .index; column = textLeft s x .column }) x
+  -- a piece, or the whole text that it begins
+  abbrev pub reachOf : List ℕ → Placed → Placed
+  reachOf s x = cond (eqb (x .name) Data) (record { name = x .name; end = textLeft s x .index; column = textLeft s x .column }) x
 
 -- the step over the piece x: whether it opens a cell, whether a further mark comes, and where the step ends
 abbrev pub stepFrom : Within → Placed → Bool → Bool → Placed → Step
@@ -77,10 +78,10 @@ stepFrom w x opens more y =
     }
 
 -- the step over the next piece of a row
-unfoldable pub stepOf : List ℕ → Part → Within → Step
-stepOf s part w =
-    let x = nextAt (w .at) (w .column) (piecesOf part (lineBody (drop (w .at) s))) in
-    stepFrom w x (opensAt s (w .seen) (x .name) (x .end)) ((isTextName (x .name) && not (eqb (x .name) Data)) && textNext (lineBody (drop (x .end) s))) (reachOf s x)
+unfoldable pub stepOf : (ℕ → ℕ) → List ℕ → Part → Within → Step
+stepOf kind s part w =
+    let x = nextAt (w .at) (w .column) (piecesOf kind part (lineBody (drop (w .at) s))) in
+    stepFrom w x (opensAt kind s (w .seen) (x .name) (x .end)) ((isTextName (x .name) && not (eqb (x .name) Data)) && textNext kind (lineBody (drop (x .end) s))) (reachOf kind s x)
 
 -- the slots of a step's events, and the next one
 abbrev pub slotsIn : Step → Slots
@@ -130,16 +131,17 @@ stepPut part l x k zs =
 
 -- ## A row
 
--- the events of a row's cells from a point on
-abbrev pub cellsAt : List ℕ → Part → Point → List Event
-cellsAt s part p = cellEvents (cellOf part) (insideOf part) (past p (restOf s p)) (cells false (passed p (piecesOf part (restOf s p))))
+module _ (kind : ℕ → ℕ) where
+  -- the events of a row's cells from a point on
+  abbrev pub cellsAt : List ℕ → Part → Point → List Event
+  cellsAt s part p = cellEvents (cellOf part) (insideOf part) (past p (restOf s p)) (cells false (passed p (piecesOf kind part (restOf s p))))
 
--- where they end that are written from the slot k on
-abbrev pub cellsEnd : List ℕ → Part → Point → ℕ → Reached
-cellsEnd s part p k =
-    let e = past p (restOf s p) in
-    record { at = e .index; column = e .column; slot = k + length (cellsAt s part p) }
+  -- where they end that are written from the slot k on
+  abbrev pub cellsEnd : List ℕ → Part → Point → ℕ → Reached
+  cellsEnd s part p k =
+      let e = past p (restOf s p) in
+      record { at = e .index; column = e .column; slot = k + length (cellsAt s part p) }
 
--- the slots with these events
-abbrev pub cellsWrote : List ℕ → Part → Point → ℕ → List Event → List Event
-cellsWrote s part p k zs = wrote k (cellsAt s part p) zs
+  -- the slots with these events
+  abbrev pub cellsWrote : List ℕ → Part → Point → ℕ → List Event → List Event
+  cellsWrote s part p k zs = wrote k (cellsAt s part p) zs

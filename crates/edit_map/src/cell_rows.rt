@@ -24,6 +24,7 @@ use tokenizer::event::Event;
 use tokenizer::slots::put;
 ghost use mathlib.Core.Path.{_≡_};
 ghost use Prim.Native.Nat.{_≤_};
+ghost use Rattle.tokenizer.specs.Bytes.{kindIn, Passes};
 ghost use Rattle.tokenizer.specs.Moves.{Inside};
 ghost use Rattle.gfm_table.specs.declared.stream.Part.the-variants.{Delimiter, Body};
 ghost use Rattle.gfm_table.specs.Places.{pointIn};
@@ -42,16 +43,23 @@ pub fn put_step(slots: &mut [Event], part: Part, line: u32, x: Step, k: Slots)
 }
 
 // The cells of a head line or a body row with what stands in them, from its first byte, into the slots from a place on.
-pub fn write_text_cells(s: &[u8], line: u32, from: u32, slots: &mut [Event], to: usize) -> Reached
-    requires { ⌜ Inside (now s) (pointIn line from 1) × (to ≤ 4294967296) ⌝ }
-    ensures { λ r. ⌜ (r ≡ cellsEnd (now (s .entry)) Body (pointIn line from 1) to) × (now (slots .exit) ≡ cellsWrote (now (s .entry)) Body (pointIn line from 1) to (now (slots .entry))) ⌝ }
+pub fn write_text_cells(
+    s: &[u8],
+    kinds: &[u8],
+    line: u32,
+    from: u32,
+    slots: &mut [Event],
+    to: usize,
+) -> Reached
+    requires { ⌜ Inside (now s) (pointIn line from 1) × (to ≤ 4294967296) × Passes (now kinds) ⌝ }
+    ensures { λ r. ⌜ (r ≡ cellsEnd (kindIn (now (kinds .entry))) (now (s .entry)) Body (pointIn line from 1) to) × (now (slots .exit) ≡ cellsWrote (kindIn (now (kinds .entry))) (now (s .entry)) Body (pointIn line from 1) to (now (slots .entry))) ⌝ }
 {
     let part = text_part();
     put(slots, to, cell_first(part, line, from));
-    let end = row_stop(s, from);
+    let end = row_stop(s, kinds, from);
     let mut w = within_first(from, to);
     while w.at < end {
-        let x = text_step(s, w);
+        let x = text_step(s, kinds, w);
         let k = slots_of(x);
         put_step(slots, part, line, x, k);
         w = within_after(x);
@@ -61,16 +69,23 @@ pub fn write_text_cells(s: &[u8], line: u32, from: u32, slots: &mut [Event], to:
 }
 
 // The cells of a delimiter row with what stands in them, from its first byte, into the slots from a place on.
-pub fn write_mark_cells(s: &[u8], line: u32, from: u32, slots: &mut [Event], to: usize) -> Reached
-    requires { ⌜ Inside (now s) (pointIn line from 1) × (to ≤ 4294967296) ⌝ }
-    ensures { λ r. ⌜ (r ≡ cellsEnd (now (s .entry)) Delimiter (pointIn line from 1) to) × (now (slots .exit) ≡ cellsWrote (now (s .entry)) Delimiter (pointIn line from 1) to (now (slots .entry))) ⌝ }
+pub fn write_mark_cells(
+    s: &[u8],
+    kinds: &[u8],
+    line: u32,
+    from: u32,
+    slots: &mut [Event],
+    to: usize,
+) -> Reached
+    requires { ⌜ Inside (now s) (pointIn line from 1) × (to ≤ 4294967296) × Passes (now kinds) ⌝ }
+    ensures { λ r. ⌜ (r ≡ cellsEnd (kindIn (now (kinds .entry))) (now (s .entry)) Delimiter (pointIn line from 1) to) × (now (slots .exit) ≡ cellsWrote (kindIn (now (kinds .entry))) (now (s .entry)) Delimiter (pointIn line from 1) to (now (slots .entry))) ⌝ }
 {
     let part = mark_part();
     put(slots, to, cell_first(part, line, from));
-    let end = row_stop(s, from);
+    let end = row_stop(s, kinds, from);
     let mut w = within_first(from, to);
     while w.at < end {
-        let x = mark_step(s, w);
+        let x = mark_step(s, kinds, w);
         let k = slots_of(x);
         put_step(slots, part, line, x, k);
         w = within_after(x);

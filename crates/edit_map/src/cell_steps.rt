@@ -19,6 +19,7 @@ ghost use mathlib.Core.Path.{_≡_};
 ghost use mathlib.Core.Bool.{cond, not, _&&_};
 ghost use Prim.Native.Nat.{_≤_, _<_, _+_, _*_};
 ghost use lib.ListN.{length, drop};
+ghost use Rattle.tokenizer.specs.Bytes.{kindIn, Passes};
 ghost use Rattle.tokenizer.specs.Lines.{lineBody};
 ghost use Rattle.tokenizer.specs.Events.{enter, leave};
 ghost use Rattle.gfm_table.specs.declared.stream.Part.the-variants.{Delimiter, Body};
@@ -119,21 +120,22 @@ pub fn link_if(go: bool) -> u8
 }
 
 // Whether a text comes next, where that is asked.
-pub fn text_follows(s: &[u8], go: bool, end: usize) -> bool
-    ensures { λ r. ⌜ r ≡ (go && textNext (lineBody (drop end (now (s .entry))))) ⌝ }
+pub fn text_follows(s: &[u8], kinds: &[u8], go: bool, end: usize) -> bool
+    requires { ⌜ Passes (now kinds) ⌝ }
+    ensures { λ r. ⌜ r ≡ (go && (textNext (kindIn (now (kinds .entry)))) (lineBody (drop end (now (s .entry))))) ⌝ }
 {
     if go {
-        return text_next(s, end);
+        return text_next(s, kinds, end);
     }
     false
 }
 
 // A piece, or the whole text that it begins.
-pub fn reach_from(s: &[u8], x: Placed) -> Placed
-    requires { ⌜ (length (now s) ≤ 65536) × (x .end ≤ length (now s)) × (x .column ≤ 4 * x .end + 1) ⌝ }
-    ensures { λ r. ⌜ r ≡ reachOf (now (s .entry)) x ⌝ }
+pub fn reach_from(s: &[u8], kinds: &[u8], x: Placed) -> Placed
+    requires { ⌜ (length (now s) ≤ 65536) × (x .end ≤ length (now s)) × (x .column ≤ 4 * x .end + 1) × Passes (now kinds) ⌝ }
+    ensures { λ r. ⌜ r ≡ reachOf (kindIn (now (kinds .entry))) (now (s .entry)) x ⌝ }
 {
-    let e = reach(s, x.name, x.end as usize, x.column as usize);
+    let e = reach(s, kinds, x.name, x.end as usize, x.column as usize);
     Placed {
         name: x.name,
         end: e.at as u32,
@@ -142,13 +144,13 @@ pub fn reach_from(s: &[u8], x: Placed) -> Placed
 }
 
 // The step over the next piece of a head line or a body row.
-pub fn text_step(s: &[u8], w: Within) -> Step
-    requires { ⌜ (length (now s) ≤ 65536) × (w .at ≤ length (now s)) × (w .column ≤ 4 * w .at + 1) ⌝ }
-    ensures { λ r. ⌜ r ≡ stepOf (now (s .entry)) Body w ⌝ }
+pub fn text_step(s: &[u8], kinds: &[u8], w: Within) -> Step
+    requires { ⌜ (length (now s) ≤ 65536) × (w .at ≤ length (now s)) × (w .column ≤ 4 * w .at + 1) × Passes (now kinds) ⌝ }
+    ensures { λ r. ⌜ r ≡ stepOf (kindIn (now (kinds .entry))) (now (s .entry)) Body w ⌝ }
 {
-    let x = text_at(s, w.at, w.column);
-    let o = opens(s, w.seen, x.name, x.end as usize);
-    let y = reach_from(s, x);
+    let x = text_at(s, kinds, w.at, w.column);
+    let o = opens(s, kinds, w.seen, x.name, x.end as usize);
+    let y = reach_from(s, kinds, x);
     let d = x.name == Name::Data;
     Step {
         at: w.at,
@@ -167,15 +169,15 @@ pub fn text_step(s: &[u8], w: Within) -> Step
 }
 
 // The step over the next piece of a delimiter row.
-pub fn mark_step(s: &[u8], w: Within) -> Step
-    requires { ⌜ (length (now s) ≤ 65536) × (w .at ≤ length (now s)) × (w .column ≤ 4 * w .at + 1) ⌝ }
-    ensures { λ r. ⌜ r ≡ stepOf (now (s .entry)) Delimiter w ⌝ }
+pub fn mark_step(s: &[u8], kinds: &[u8], w: Within) -> Step
+    requires { ⌜ (length (now s) ≤ 65536) × (w .at ≤ length (now s)) × (w .column ≤ 4 * w .at + 1) × Passes (now kinds) ⌝ }
+    ensures { λ r. ⌜ r ≡ stepOf (kindIn (now (kinds .entry))) (now (s .entry)) Delimiter w ⌝ }
 {
-    let x = marks_at(s, w.at, w.column);
+    let x = marks_at(s, kinds, w.at, w.column);
     let e = x.end as usize;
-    let o = opens(s, w.seen, x.name, e);
+    let o = opens(s, kinds, w.seen, x.name, e);
     let t = is_text_name(x.name);
-    let m = text_follows(s, t, e);
+    let m = text_follows(s, kinds, t, e);
     Step {
         at: w.at,
         column: w.column,

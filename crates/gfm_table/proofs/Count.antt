@@ -10,7 +10,7 @@ use lib.Dec.{eqb, leb}
 use lib.ListN.{length}
 use Rattle.tokenizer.specs.declared.event.Point.{Point}
 use Rattle.gfm_table.specs.declared.states.Scan.{Scan}
-use Rattle.tokenizer.specs.Bytes.{kindOf}
+use Rattle.tokenizer.specs.Bytes.{Reads}
 use Rattle.tokenizer.specs.Points.{past}
 use Rattle.gfm_table.specs.Rows.{Piece, joins, onPieces, rowName, oddAfter, rowPieces}
 use Rattle.gfm_table.specs.Heads.{isDivider, solid, loneDivider, dividers, trailing, cellCount, headCells}
@@ -119,16 +119,17 @@ starts-data b (p ∷ ps) = go (eqb 3 (p .name))
     go true = refl
     go false = refl
 
-starts-row : (u : List ℕ) → Starts (solid (rowPieces kindOf false u)) (pipeFirst (unindented kindOf u))
-unfolding Starts solid rowPieces unindented
-starts-row [] = refl
-starts-row (b ∷ u) = go (view (kindOf b)) (starts-row u)
-  where
-    go : View (kindOf b) → Starts (solid (rowPieces kindOf false u)) (pipeFirst (unindented kindOf u)) → Starts (solid (rowPieces kindOf false (b ∷ u))) (pipeFirst (unindented kindOf (b ∷ u)))
-    go (space e) h = simp (e, solid-space b (rowPieces kindOf false u)) h
-    go (pipe e) h = simp (e, single) refl
-    go (slash e) h = simp e (starts-data b (rowPieces kindOf true u))
-    go (plain e f g) h = simp (e, f, g) (starts-data b (rowPieces kindOf false u))
+module _ {kind : ℕ → ℕ} (ok : Reads kind) where
+  starts-row : (u : List ℕ) → Starts (solid (rowPieces kind false u)) (pipeFirst kind (unindented kind u))
+  unfolding Starts solid rowPieces unindented
+  starts-row [] = refl
+  starts-row (b ∷ u) = go (view (kind b)) (starts-row u)
+    where
+      go : View (kind b) → Starts (solid (rowPieces kind false u)) (pipeFirst kind (unindented kind u)) → Starts (solid (rowPieces kind false (b ∷ u))) (pipeFirst kind (unindented kind (b ∷ u)))
+      go (space e) h = simp (e, solid-space b (rowPieces kind false u)) h
+      go (pipe e) h = simp (e, single) refl
+      go (slash e) h = simp e (starts-data b (rowPieces kind true u))
+      go (plain e f g) h = simp (e, f, g) (starts-data b (rowPieces kind false u))
 
 cells-begun : (xs : List Piece) (l : Bool) → Starts xs l → begun (not l) xs ≡ cellCount xs
 unfolding Starts begun dividers trailing
@@ -148,30 +149,31 @@ solids-lone (x ∷ []) true e = sym e
 solids-lone (x ∷ []) false e = sym e
 solids-lone (x ∷ y ∷ xs) l e = lt-leb (cond l 0 1 + length (x ∷ y ∷ xs)) 1 (omega arith)
 
--- the counters of a head line, by whether a divider leads
-pub head-cells : (u : List ℕ) → begun (not (pipeFirst (unindented kindOf u))) (solid (rowPieces kindOf false u)) ≡ headCells kindOf u
-head-cells u = cells-begun (solid (rowPieces kindOf false u)) (pipeFirst (unindented kindOf u)) (starts-row u)
+module _ {kind : ℕ → ℕ} (ok : Reads kind) where
+  -- the counters of a head line, by whether a divider leads
+  pub head-cells : (u : List ℕ) → begun (not (pipeFirst kind (unindented kind u))) (solid (rowPieces kind false u)) ≡ headCells kind u
+  head-cells u = cells-begun (solid (rowPieces kind false u)) (pipeFirst kind (unindented kind u)) (starts-row ok u)
 
-pub head-lone : (u : List ℕ) → leb (cond (pipeFirst (unindented kindOf u)) 0 1 + length (solid (rowPieces kindOf false u))) 1 ≡ loneDivider (solid (rowPieces kindOf false u))
-head-lone u = solids-lone (solid (rowPieces kindOf false u)) (pipeFirst (unindented kindOf u)) (starts-row u)
+  pub head-lone : (u : List ℕ) → leb (cond (pipeFirst kind (unindented kind u)) 0 1 + length (solid (rowPieces kind false u))) 1 ≡ loneDivider (solid (rowPieces kind false u))
+  head-lone u = solids-lone (solid (rowPieces kind false u)) (pipeFirst kind (unindented kind u)) (starts-row ok u)
 
--- ## A whole row
+  -- ## A whole row
 
-pub row-whole : (s : List ℕ) (p : Point) → p .vs ≡ 0 → RowRead (restOf s p) p (whole s (startAt s p))
-row-whole s p e =
-    let u = restOf s p in
-    let q = startAt s p in
-    let ps = rowPieces kindOf false u in
-    record {
-      pieces = walked-count q ps ∙ omega arith;
-      cells = walked-cells q ps ∙ omega (arith, head-cells u);
-      lone = ap (λ (n : ℕ). leb n 1) (walked-solids q ps) ∙ head-lone u;
-      end = walked-at q ps e ∙ ap (past p) (texts-row kindOf false u);
-    }
+  pub row-whole : (s : List ℕ) (p : Point) → p .vs ≡ 0 → RowRead kind (restOf s p) p (whole kind s (startAt kind s p))
+  row-whole s p e =
+      let u = restOf s p in
+      let q = startAt kind s p in
+      let ps = rowPieces kind false u in
+      record {
+        pieces = walked-count q ps ∙ omega arith;
+        cells = walked-cells q ps ∙ omega (arith, head-cells u);
+        lone = ap (λ (n : ℕ). leb n 1) (walked-solids q ps) ∙ head-lone u;
+        end = walked-at q ps e ∙ ap (past p) (texts-row kind false u);
+      }
 
-pub start-counted : (s : List ℕ) (p : Point) → Inside s p → Counted s (startAt s p)
-start-counted s p h = go (pipeFirst (unindented kindOf (restOf s p)))
-  where
-    go : (l : Bool) → Counted s (record { at = p; from = p; name = 0; count = 0; size = 0; «size_b» = cond l 0 1; seen = not l })
-    go true = record { inside = h; few = omega arith; cells = omega arith; solids = omega arith }
-    go false = record { inside = h; few = omega arith; cells = omega arith; solids = omega arith }
+  pub start-counted : (s : List ℕ) (p : Point) → Inside s p → Counted s (startAt kind s p)
+  start-counted s p h = go (pipeFirst kind (unindented kind (restOf s p)))
+    where
+      go : (l : Bool) → Counted s (record { at = p; from = p; name = 0; count = 0; size = 0; «size_b» = cond l 0 1; seen = not l })
+      go true = record { inside = h; few = omega arith; cells = omega arith; solids = omega arith }
+      go false = record { inside = h; few = omega arith; cells = omega arith; solids = omega arith }

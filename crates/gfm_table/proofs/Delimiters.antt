@@ -9,7 +9,7 @@ use borrow.Author.Tests.{eqb-true, eqb-false, ne-eqb}
 use lib.Dec.{eqb}
 use lib.ListN.{drop, getD}
 use Rattle.tokenizer.specs.declared.event.Point.{Point}
-use Rattle.tokenizer.specs.Bytes.{kindOf}
+use Rattle.tokenizer.specs.Bytes.{Reads}
 use Rattle.tokenizer.specs.Lines.{isEmpty, isSpace, indent, unindented, blank}
 use Rattle.gfm_table.specs.Heads.{untailed, hyphens}
 use Rattle.tokenizer.specs.Lines.{lineBody}
@@ -172,104 +172,105 @@ empty-none : (u : List ℕ) → isEmpty u ≡ true → u ≡ []
 empty-none [] e = refl
 empty-none (b ∷ u) e = absurd (false≢true e)
 
-pub ends-two : (u : List ℕ) → aheadOf kindOf u ≡ 2 → true ≡ isEmpty (stretch kindOf (lineBody u))
-unfolding stretch
-ends-two u e = rw (ends u e)
+module _ {kind : ℕ → ℕ} (ok : Reads kind) where
+  pub ends-two : (u : List ℕ) → aheadOf kind u ≡ 2 → true ≡ isEmpty (stretch kind (lineBody u))
+  unfolding stretch
+  ends-two u e = rw (ends ok u e)
 
-pub ends-front : (s : List ℕ) (i k : ℕ) → Front s i k → eqb k 3 ≡ isEmpty (stretch kindOf (lineBody (drop i s)))
-unfolding stretch
-ends-front s i k f = rw (f .line, f .kind) (go (eqb k 3))
-  where
-    go : (t : Bool) → t ≡ isEmpty (cond t [] (getD s i 0 ∷ stretch kindOf (lineBody (drop (i + 1) s))))
-    go true = refl
-    go false = refl
+  pub ends-front : (s : List ℕ) (i k : ℕ) → Front kind s i k → eqb k 3 ≡ isEmpty (stretch kind (lineBody (drop i s)))
+  unfolding stretch
+  ends-front s i k f = rw (f .line, f .is) (go (eqb k 3))
+    where
+      go : (t : Bool) → t ≡ isEmpty (cond t [] (getD s i 0 ∷ stretch kind (lineBody (drop (i + 1) s))))
+      go true = refl
+      go false = refl
 
--- a stretch that does not end here goes on
-pub goes-in : (s : List ℕ) (i k : ℕ) → k ≡ aheadOf kindOf (drop i s) → isEmpty (stretch kindOf (lineBody (drop i s))) ≡ false → Front s i k × (k ≡ 3 → ⊥)
-goes-in s i k e h =
-    let f = goes s i k e (λ z. true≢false (ends-two (drop i s) (sym e ∙ z) ∙ h)) in
-    (f, eqb-false k 3 (ends-front s i k f ∙ h))
+  -- a stretch that does not end here goes on
+  pub goes-in : (s : List ℕ) (i k : ℕ) → k ≡ aheadOf kind (drop i s) → isEmpty (stretch kind (lineBody (drop i s))) ≡ false → Front kind s i k × (k ≡ 3 → ⊥)
+  goes-in s i k e h =
+      let f = goes ok s i k e (λ z. true≢false (ends-two (drop i s) (sym e ∙ z) ∙ h)) in
+      (f, eqb-false k 3 (ends-front s i k f ∙ h))
 
-module _ (s : List ℕ) (p : Point) where
-  -- after the whitespace
-  abbrev solidAt : Point
-  solidAt = runEnd (indent kindOf) s p
+  module _ (s : List ℕ) (p : Point) where
+    -- after the whitespace
+    abbrev solidAt : Point
+    solidAt = runEnd (indent kind) s p
 
-  solid-rest : restOf s solidAt ≡ unindented kindOf (restOf s p)
-  solid-rest = rest-end (indent kindOf) (unindented kindOf) (space-split kindOf) s p
+    solid-rest : restOf s solidAt ≡ unindented kind (restOf s p)
+    solid-rest = rest-end (indent kind) (unindented kind) (space-split kind) s p
 
-  pub solid-inside : Inside s p → Inside s solidAt
-  solid-inside = inside-end (indent kindOf) (unindented kindOf) (space-split kindOf) s p
+    pub solid-inside : Inside s p → Inside s solidAt
+    solid-inside = inside-end (indent kind) (unindented kind) (space-split kind) s p
 
-  solid-end : runEnd (stretch kindOf) s solidAt ≡ runEnd (stretch kindOf) s p
-  solid-end = end-end (indent kindOf) (unindented kindOf) (space-split kindOf) s p (stretch kindOf) (stretch kindOf) (stretch-space kindOf)
+    solid-end : runEnd (stretch kind) s solidAt ≡ runEnd (stretch kind) s p
+    solid-end = end-end (indent kind) (unindented kind) (space-split kind) s p (stretch kind) (stretch kind) (stretch-space kind)
 
-  solid-ends : Inside s p → isEmpty (stretch kindOf (restOf s solidAt)) ≡ true → solidAt ≡ runEnd (stretch kindOf) s p
-  solid-ends h e = sym (end-none (stretch kindOf) s solidAt (solid-inside h) (empty-none (stretch kindOf (restOf s solidAt)) e)) ∙ solid-end
+    solid-ends : Inside s p → isEmpty (stretch kind (restOf s solidAt)) ≡ true → solidAt ≡ runEnd (stretch kind) s p
+    solid-ends h e = sym (end-none (stretch kind) s solidAt (solid-inside h) (empty-none (stretch kind (restOf s solidAt)) e)) ∙ solid-end
 
-  -- whitespace to the end of the stretch, or not
-  blank-solid : isEmpty (stretch kindOf (restOf s solidAt)) ≡ blank kindOf (stretch kindOf (restOf s p))
-  blank-solid = ap (λ (l : List ℕ). isEmpty (stretch kindOf l)) solid-rest ∙ ap isEmpty (sym (stretch-indent kindOf (restOf s p)))
+    -- whitespace to the end of the stretch, or not
+    blank-solid : isEmpty (stretch kind (restOf s solidAt)) ≡ blank kind (stretch kind (restOf s p))
+    blank-solid = ap (λ (l : List ℕ). isEmpty (stretch kind l)) solid-rest ∙ ap isEmpty (sym (stretch-indent kind (restOf s p)))
 
-  pub blank-value : Inside s p → isEmpty (stretch kindOf (restOf s solidAt)) ≡ true → Value solidAt ≡ blankAt p (restOf s p)
-  blank-value h e = rw (← blank-solid, e) (ap Value (solid-ends h e))
+    pub blank-value : Inside s p → isEmpty (stretch kind (restOf s solidAt)) ≡ true → Value solidAt ≡ blankAt kind p (restOf s p)
+    blank-value h e = rw (← blank-solid, e) (ap Value (solid-ends h e))
 
-  pub blank-bad : isEmpty (stretch kindOf (restOf s solidAt)) ≡ false → Bad ≡ blankAt p (restOf s p)
-  blank-bad e = rw (← blank-solid, e)
+    pub blank-bad : isEmpty (stretch kind (restOf s solidAt)) ≡ false → Bad ≡ blankAt kind p (restOf s p)
+    blank-bad e = rw (← blank-solid, e)
 
-  -- after the hyphens
+    -- after the hyphens
 
-  pub closed-colon : (f : Front s (p .index) 6) → blankAt (overAt s p) (restOf s (overAt s p)) ≡ closedAt p (restOf s p)
-  closed-colon f =
-      let l : closes kindOf (restOf s p) ≡ blank kindOf (stretch kindOf (restOf s (overAt s p))) = rw (f .line, f .kind) in
-      rw (l, end-over s p 6 f (stretch kindOf) (stretch kindOf) (λ b u e. stretch-on kindOf b u (λ z. omega arith)))
+    pub closed-colon : (f : (Front kind) s (p .index) 6) → blankAt kind (overAt s p) (restOf s (overAt s p)) ≡ closedAt kind p (restOf s p)
+    closed-colon f =
+        let l : closes kind (restOf s p) ≡ blank kind (stretch kind (restOf s (overAt s p))) = rw (f .line, f .is) in
+        rw (l, end-over s p 6 f (stretch kind) (stretch kind) (λ b u e. stretch-on kind b u (λ z. omega arith)))
 
-  closes-blank : (v : List ℕ) → (aheadOf kindOf v ≡ 6 → ⊥) → closes kindOf (lineBody v) ≡ blank kindOf (stretch kindOf (lineBody v))
-  unfolding lineBody stretch unindented
-  closes-blank [] h = refl
-  closes-blank (b ∷ v) h = line-case b v (λ l. closes kindOf l ≡ blank kindOf (stretch kindOf l)) refl (λ z. rw (ne-eqb (kindOf b) 6 h))
+    closes-blank : (v : List ℕ) → (aheadOf kind v ≡ 6 → ⊥) → closes kind (lineBody v) ≡ blank kind (stretch kind (lineBody v))
+    unfolding lineBody stretch unindented
+    closes-blank [] h = refl
+    closes-blank (b ∷ v) h = line-case ok b v (λ l. closes kind l ≡ blank kind (stretch kind l)) refl (λ z. rw (ne-eqb (kind b) 6 h))
 
-  pub closed-none : (aheadOf kindOf (drop (p .index) s) ≡ 6 → ⊥) → blankAt p (restOf s p) ≡ closedAt p (restOf s p)
-  closed-none h = rw (closes-blank (drop (p .index) s) h)
+    pub closed-none : (aheadOf kind (drop (p .index) s) ≡ 6 → ⊥) → blankAt kind p (restOf s p) ≡ closedAt kind p (restOf s p)
+    closed-none h = rw (closes-blank (drop (p .index) s) h)
 
-  -- at the hyphens
+    -- at the hyphens
 
-  abbrev filledAt : Point
-  filledAt = runEnd (runOf kindOf 5) s p
+    abbrev filledAt : Point
+    filledAt = runEnd (runOf kind 5) s p
 
-  pub filled-inside : Inside s p → Inside s filledAt
-  filled-inside = inside-end (runOf kindOf 5) (afterRun kindOf 5) (run-split kindOf 5) s p
+    pub filled-inside : Inside s p → Inside s filledAt
+    filled-inside = inside-end (runOf kind 5) (afterRun kind 5) (run-split kind 5) s p
 
-  pub hyphens-value : (f : Front s (p .index) 5) → closedAt filledAt (restOf s filledAt) ≡ hyphensAt p (restOf s p)
-  hyphens-value f =
-      let e : runEnd (stretch kindOf) s filledAt ≡ runEnd (stretch kindOf) s p = end-end (runOf kindOf 5) (afterRun kindOf 5) (run-split kindOf 5) s p (stretch kindOf) (stretch kindOf) (stretch-hyphens kindOf) in
-      let r : restOf s filledAt ≡ afterRun kindOf 5 (restOf s p) = rest-end (runOf kindOf 5) (afterRun kindOf 5) (run-split kindOf 5) s p in
-      let l : hyphens kindOf (untailed kindOf (stretch kindOf (restOf s p))) ≡ closes kindOf (restOf s filledAt) = rw (r, f .line) (hyphens-on kindOf _ _ (f .kind)) in
-      rw (l, e)
+    pub hyphens-value : (f : (Front kind) s (p .index) 5) → closedAt kind filledAt (restOf s filledAt) ≡ hyphensAt kind p (restOf s p)
+    hyphens-value f =
+        let e : runEnd (stretch kind) s filledAt ≡ runEnd (stretch kind) s p = end-end (runOf kind 5) (afterRun kind 5) (run-split kind 5) s p (stretch kind) (stretch kind) (stretch-hyphens kind) in
+        let r : restOf s filledAt ≡ afterRun kind 5 (restOf s p) = rest-end (runOf kind 5) (afterRun kind 5) (run-split kind 5) s p in
+        let l : hyphens kind (untailed kind (stretch kind (restOf s p))) ≡ closes kind (restOf s filledAt) = rw (r, f .line) (hyphens-on kind _ _ (f .is)) in
+        rw (l, e)
 
-  hyphens-bad′ : (v : List ℕ) → (aheadOf kindOf v ≡ 5 → ⊥) → hyphens kindOf (untailed kindOf (stretch kindOf (lineBody v))) ≡ false
-  unfolding lineBody stretch untailed hyphens
-  hyphens-bad′ [] h = refl
-  hyphens-bad′ (b ∷ v) h = line-case b v (λ l. hyphens kindOf (untailed kindOf (stretch kindOf l)) ≡ false) refl (λ z. hyphens-none kindOf b (lineBody v) (ne-eqb (kindOf b) 5 h))
+    hyphens-bad′ : (v : List ℕ) → (aheadOf kind v ≡ 5 → ⊥) → hyphens kind (untailed kind (stretch kind (lineBody v))) ≡ false
+    unfolding lineBody stretch untailed hyphens
+    hyphens-bad′ [] h = refl
+    hyphens-bad′ (b ∷ v) h = line-case ok b v (λ l. hyphens kind (untailed kind (stretch kind l)) ≡ false) refl (λ z. hyphens-none kind b (lineBody v) (ne-eqb (kind b) 5 h))
 
-  pub hyphens-bad : (aheadOf kindOf (drop (p .index) s) ≡ 5 → ⊥) → Bad ≡ hyphensAt p (restOf s p)
-  hyphens-bad h = rw (hyphens-bad′ (drop (p .index) s) h)
+    pub hyphens-bad : (aheadOf kind (drop (p .index) s) ≡ 5 → ⊥) → Bad ≡ hyphensAt kind p (restOf s p)
+    hyphens-bad h = rw (hyphens-bad′ (drop (p .index) s) h)
 
-  -- the whole stretch
+    -- the whole stretch
 
-  pub cell-empty : Inside s p → isEmpty (stretch kindOf (restOf s solidAt)) ≡ true → Empty solidAt ≡ cellAt p (restOf s p)
-  cell-empty h e = rw (written-none kindOf (restOf s p) (rw (← solid-rest) e)) (ap Empty (solid-ends h e))
+    pub cell-empty : Inside s p → isEmpty (stretch kind (restOf s solidAt)) ≡ true → Empty solidAt ≡ cellAt kind p (restOf s p)
+    cell-empty h e = rw (written-none kind (restOf s p) (rw (← solid-rest) e)) (ap Empty (solid-ends h e))
 
-  -- the stretch goes on with a byte of the kind k
-  module _ (k : ℕ) (f : Front s (solidAt .index) k) (h : k ≡ 3 → ⊥) where
-    written-solid : written (restOf s p) ≡ getD s (solidAt .index) 0 ∷ untailed kindOf (stretch kindOf (restOf s (overAt s solidAt)))
-    written-solid = written-on kindOf (restOf s p) _ _ (sym solid-rest ∙ f .line) (λ z. h (sym (f .kind) ∙ z))
+    -- the stretch goes on with a byte of the kind k
+    module _ (k : ℕ) (f : (Front kind) s (solidAt .index) k) (h : k ≡ 3 → ⊥) where
+      written-solid : (written kind) (restOf s p) ≡ getD s (solidAt .index) 0 ∷ untailed kind (stretch kind (restOf s (overAt s solidAt)))
+      written-solid = written-on kind (restOf s p) _ _ (sym solid-rest ∙ f .line) (λ z. h (sym (f .is) ∙ z))
 
-    pub cell-colon : k ≡ 6 → hyphensAt (overAt s solidAt) (restOf s (overAt s solidAt)) ≡ cellAt p (restOf s p)
-    cell-colon e =
-        rw (written-solid, f .kind, e, end-over s solidAt k f (stretch kindOf) (stretch kindOf) (λ b u g. stretch-on kindOf b u (λ z. h (sym g ∙ z))), solid-end)
+      pub cell-colon : k ≡ 6 → hyphensAt kind (overAt s solidAt) (restOf s (overAt s solidAt)) ≡ cellAt kind p (restOf s p)
+      cell-colon e =
+          rw (written-solid, f .is, e, end-over s solidAt k f (stretch kind) (stretch kind) (λ b u g. stretch-on kind b u (λ z. h (sym g ∙ z))), solid-end)
 
-    pub cell-plain : (k ≡ 6 → ⊥) → hyphensAt solidAt (restOf s solidAt) ≡ cellAt p (restOf s p)
-    cell-plain e =
-        let l : untailed kindOf (stretch kindOf (restOf s solidAt)) ≡ written (restOf s p) = rw (solid-rest, stretch-indent kindOf (restOf s p)) in
-        rw (l, written-solid, f .kind, ne-eqb k 6 e, solid-end)
+      pub cell-plain : (k ≡ 6 → ⊥) → hyphensAt kind solidAt (restOf s solidAt) ≡ cellAt kind p (restOf s p)
+      cell-plain e =
+          let l : untailed kind (stretch kind (restOf s solidAt)) ≡ written kind (restOf s p) = rw (solid-rest, stretch-indent kind (restOf s p)) in
+          rw (l, written-solid, f .is, ne-eqb k 6 e, solid-end)

@@ -10,7 +10,7 @@ use borrow.Author.Tests.{eqb-true, eqb-false, ne-eqb, ltb-true, ltb-false}
 use lib.Dec.{eqb, ltb}
 use lib.ListN.{length, getD}
 use Rattle.tokenizer.specs.declared.event.Point.{Point}
-use Rattle.tokenizer.specs.Bytes.{kindOf}
+use Rattle.tokenizer.specs.Bytes.{Reads}
 use Rattle.tokenizer.specs.Points.{past}
 use Rattle.gfm_table.specs.Rows.{Piece, onPieces, delimiterName, delimiterPieces}
 use Rattle.tokenizer.specs.Lines.{indent, unindented}
@@ -97,22 +97,25 @@ module _ (kind : ℕ → ℕ) where
       go (colon e) = simp e
       go (other e f g i) = absurd (let x = eqb-false (kind b) 1 e in let y = eqb-false (kind b) 3 f in omega arith)
 
-pub fillers-stop : (u : List ℕ) → (aheadOf kindOf u ≡ 6) ⊎ ((1 ≤ aheadOf kindOf u) × (aheadOf kindOf u ≤ 3)) → fillerRun kindOf (lineBody u) ≡ []
-unfolding lineBody fillerRun
-fillers-stop [] h = refl
-fillers-stop (b ∷ u) h = line-case b u (λ l. fillerRun kindOf l ≡ []) refl (λ z. filler-off kindOf b (lineBody u) z h)
+module _ {kind : ℕ → ℕ} (ok : Reads kind) where
+  pub fillers-stop : (u : List ℕ) → (aheadOf kind u ≡ 6) ⊎ ((1 ≤ aheadOf kind u) × (aheadOf kind u ≤ 3)) → fillerRun kind (lineBody u) ≡ []
+  unfolding lineBody fillerRun
+  fillers-stop [] h = refl
+  fillers-stop (b ∷ u) h = line-case ok b u (λ l. fillerRun kind l ≡ []) refl (λ z. filler-off kind b (lineBody u) z h)
 
 -- ## The first piece at a point
 
-pub record First (s : List ℕ) (p : Point) (n : ℕ) (t : List ℕ) : Type 0 where
-  pub pieces : delimiterPiecesAt s p ≡ record { name = n; text = t } ∷ delimiterPiecesAt s (past p t)
-  pub some : 0 < length t
-  pub line : restOf s p ≡ t ++ restOf s (past p t)
-  pub inside : Inside s (past p t)
+module _ (kind : ℕ → ℕ) where
+  pub record First (s : List ℕ) (p : Point) (n : ℕ) (t : List ℕ) : Type 0 where
+    pub pieces : (delimiterPiecesAt kind) s p ≡ record { name = n; text = t } ∷ delimiterPiecesAt kind s (past p t)
+    pub some : 0 < length t
+    pub line : restOf s p ≡ t ++ restOf s (past p t)
+    pub inside : Inside s (past p t)
 
-first : (s : List ℕ) (p : Point) (n : ℕ) (t u : List ℕ) → Inside s p → restOf s p ≡ t ++ u → 0 < length t → delimiterPiecesAt s p ≡ record { name = n; text = t } ∷ delimiterPieces kindOf u → First s p n t
-first s p n t u h e l f =
-    record { pieces = f ∙ ap (λ (r : List ℕ). record { name = n; text = t } ∷ delimiterPieces kindOf r) (sym (rest-past s p t u e)); some = l; line = e ∙ ap (λ (r : List ℕ). t ++ r) (sym (rest-past s p t u e)); inside = inside-past s p t u h e }
+module _ {kind : ℕ → ℕ} (ok : Reads kind) where
+  first : (s : List ℕ) (p : Point) (n : ℕ) (t u : List ℕ) → Inside s p → restOf s p ≡ t ++ u → 0 < length t → delimiterPiecesAt kind s p ≡ record { name = n; text = t } ∷ delimiterPieces kind u → First kind s p n t
+  first s p n t u h e l f =
+      record { pieces = f ∙ ap (λ (r : List ℕ). record { name = n; text = t } ∷ delimiterPieces kind r) (sym (rest-past s p t u e)); some = l; line = e ∙ ap (λ (r : List ℕ). t ++ r) (sym (rest-past s p t u e)); inside = inside-past s p t u h e }
 
 far : (k : ℕ) → (k ≡ 1 → ⊥) → (k ≡ 2 → ⊥) → (k ≡ 3 → ⊥) → (k < 1) ⊎ (3 < k)
 far k a b c = go (ltb k 1) refl
@@ -121,25 +124,25 @@ far k a b c = go (ltb k 1) refl
     go true e = inl (ltb-true k 1 e)
     go false e = let l = ltb-false k 1 e in inr (omega arith)
 
-module _ (s : List ℕ) (p : Point) (k : ℕ) (f : Front s (p .index) k) (h : Inside s p) where
-  pub first-space : k ≡ 1 → First s p 1 (indent kindOf (restOf s p))
+module _ {kind : ℕ → ℕ} (ok : Reads kind) (s : List ℕ) (p : Point) (k : ℕ) (f : (Front kind) s (p .index) k) (h : Inside s p) where
+  pub first-space : k ≡ 1 → First kind s p 1 (indent kind (restOf s p))
   first-space e =
       let u = restOf s p in
-      let l : 0 < length (indent kindOf u) = rw (f .line, space-on kindOf _ _ (f .kind ∙ e)) (omega arith) in
-      first s p 1 (indent kindOf u) (unindented kindOf u) h (sym (space-split kindOf u)) l (space-led kindOf u ∙ led-some 1 _ _ l)
+      let l : 0 < length (indent kind u) = rw (f .line, space-on kind _ _ (f .is ∙ e)) (omega arith) in
+      first ok s p 1 (indent kind u) (unindented kind u) h (sym (space-split kind u)) l (space-led kind u ∙ led-some 1 _ _ l)
 
-  pub first-divider : k ≡ 3 → First s p 10 (getD s (p .index) 0 ∷ [])
+  pub first-divider : k ≡ 3 → First kind s p 10 (getD s (p .index) 0 ∷ [])
   unfolding delimiterPieces
   first-divider e =
-      first s p 10 (getD s (p .index) 0 ∷ []) (restOf s (overAt s p)) h (f .line) (omega arith) (rw (f .line) (simp (f .kind, e) (alone kindOf 10 _ _ (inl refl))))
+      first ok s p 10 (getD s (p .index) 0 ∷ []) (restOf s (overAt s p)) h (f .line) (omega arith) (rw (f .line) (simp (f .is, e) (alone kind 10 _ _ (inl refl))))
 
-  pub first-marker : k ≡ 6 → First s p 12 (getD s (p .index) 0 ∷ [])
+  pub first-marker : k ≡ 6 → First kind s p 12 (getD s (p .index) 0 ∷ [])
   unfolding delimiterPieces
   first-marker e =
-      first s p 12 (getD s (p .index) 0 ∷ []) (restOf s (overAt s p)) h (f .line) (omega arith) (rw (f .line) (simp (f .kind, e) (alone kindOf 12 _ _ (inr refl))))
+      first ok s p 12 (getD s (p .index) 0 ∷ []) (restOf s (overAt s p)) h (f .line) (omega arith) (rw (f .line) (simp (f .is, e) (alone kind 12 _ _ (inr refl))))
 
-  pub first-filler : (k ≡ 1 → ⊥) → (k ≡ 2 → ⊥) → (k ≡ 3 → ⊥) → (k ≡ 6 → ⊥) → First s p 15 (fillerRun kindOf (restOf s p))
+  pub first-filler : (k ≡ 1 → ⊥) → (k ≡ 2 → ⊥) → (k ≡ 3 → ⊥) → (k ≡ 6 → ⊥) → First kind s p 15 (fillerRun kind (restOf s p))
   first-filler a b c d =
       let u = restOf s p in
-      let l : 0 < length (fillerRun kindOf u) = rw (f .line, filler-on kindOf _ _ (rw (f .kind) (far k a b c)) (λ z. d (sym (f .kind) ∙ z))) (omega arith) in
-      first s p 15 (fillerRun kindOf u) (fillerRest kindOf u) h (sym (filler-split kindOf u)) l (filler-led kindOf u ∙ led-some 15 _ _ l)
+      let l : 0 < length (fillerRun kind u) = rw (f .line, filler-on kind _ _ (rw (f .is) (far k a b c)) (λ z. d (sym (f .is) ∙ z))) (omega arith) in
+      first ok s p 15 (fillerRun kind u) (fillerRest kind u) h (sym (filler-split kind u)) l (filler-led kind u ∙ led-some 15 _ _ l)

@@ -12,88 +12,91 @@ use Rattle.tokenizer.specs.declared.event.Point.{Point}
 use Rattle.gfm_table.specs.declared.states.Scan.{Scan}
 use Rattle.gfm_table.specs.declared.states.Step.{Step}
 use Rattle.gfm_table.specs.declared.states.Step.the-variants.{Paused, Ended}
-use Rattle.tokenizer.specs.Bytes.{kindOf}
+use Rattle.tokenizer.specs.Bytes.{Reads}
 use Rattle.tokenizer.specs.Points.{past}
 use Rattle.gfm_table.specs.Rows.{Piece, rowPieces}
 use Rattle.tokenizer.specs.Lines.{indent, unindented}
 use Rattle.tokenizer.specs.Moves.{aheadOf, restOf, overAt, Inside}
-use Rattle.gfm_table.specs.Machine.{dataRun, dataRest, isSolid, stepped, walked, outcome, whole, piecesAt, Counted, Passes}
+use Rattle.gfm_table.specs.Machine.{dataRun, dataRest, isSolid, stepped, walked, outcome, whole, piecesAt, Counted, ReadHere}
 use Rattle.tokenizer.proofs.Ahead.{Front, ends, rest-past, inside-past}
 use Rattle.tokenizer.proofs.Runs.{space-on, space-split}
 use Rattle.gfm_table.proofs.Runs.{led-some, single, space-pieces, data-some, data-split, data-pieces}
 
 -- ## The first piece at a point
 
-pub record First (s : List ℕ) (p : Point) (n : ℕ) (t : List ℕ) : Type 0 where
-  pub pieces : piecesAt s p ≡ record { name = n; text = t } ∷ piecesAt s (past p t)
-  pub some : 0 < length t
-  pub line : restOf s p ≡ t ++ restOf s (past p t)
-  pub inside : Inside s (past p t)
+module _ (kind : ℕ → ℕ) where
+  pub record First (s : List ℕ) (p : Point) (n : ℕ) (t : List ℕ) : Type 0 where
+    pub pieces : (piecesAt kind) s p ≡ record { name = n; text = t } ∷ piecesAt kind s (past p t)
+    pub some : 0 < length t
+    pub line : restOf s p ≡ t ++ restOf s (past p t)
+    pub inside : Inside s (past p t)
 
--- a stretch t of the line that is one piece, before u
-first : (s : List ℕ) (p : Point) (n : ℕ) (t u : List ℕ) → Inside s p → restOf s p ≡ t ++ u → 0 < length t → piecesAt s p ≡ record { name = n; text = t } ∷ rowPieces kindOf false u → First s p n t
-first s p n t u h e l f =
-    record { pieces = f ∙ ap (λ (r : List ℕ). record { name = n; text = t } ∷ rowPieces kindOf false r) (sym (rest-past s p t u e)); some = l; line = e ∙ ap (λ (r : List ℕ). t ++ r) (sym (rest-past s p t u e)); inside = inside-past s p t u h e }
+module _ {kind : ℕ → ℕ} (ok : Reads kind) where
+  -- a stretch t of the line that is one piece, before u
+  first : (s : List ℕ) (p : Point) (n : ℕ) (t u : List ℕ) → Inside s p → restOf s p ≡ t ++ u → 0 < length t → piecesAt kind s p ≡ record { name = n; text = t } ∷ rowPieces kind false u → First kind s p n t
+  first s p n t u h e l f =
+      record { pieces = f ∙ ap (λ (r : List ℕ). record { name = n; text = t } ∷ rowPieces kind false r) (sym (rest-past s p t u e)); some = l; line = e ∙ ap (λ (r : List ℕ). t ++ r) (sym (rest-past s p t u e)); inside = inside-past s p t u h e }
 
-module _ (s : List ℕ) (p : Point) (k : ℕ) (f : Front s (p .index) k) (h : Inside s p) where
-  pub first-space : k ≡ 1 → First s p 1 (indent kindOf (restOf s p))
-  first-space e =
+  module _ (s : List ℕ) (p : Point) (k : ℕ) (f : (Front kind) s (p .index) k) (h : Inside s p) where
+    pub first-space : k ≡ 1 → First kind s p 1 (indent kind (restOf s p))
+    first-space e =
+        let u = restOf s p in
+        let l : 0 < length (indent kind u) = rw (f .line, space-on kind _ _ (f .is ∙ e)) (omega arith) in
+        first s p 1 (indent kind u) (unindented kind u) h (sym (space-split kind u)) l (space-pieces kind u ∙ led-some 1 _ _ l)
+
+    pub first-divider : k ≡ 3 → First kind s p 10 (getD s (p .index) 0 ∷ [])
+    unfolding rowPieces
+    first-divider e =
+        first s p 10 (getD s (p .index) 0 ∷ []) (restOf s (overAt s p)) h (f .line) (omega arith) (rw (f .line) (simp (f .is, e) (single _ _)))
+
+    pub data-ahead : (k ≡ 1 → ⊥) → (k ≡ 3 → ⊥) → 0 < length (dataRun kind false (restOf s p))
+    data-ahead d e = rw (f .line) (data-some kind _ _ (λ z. d (sym (f .is) ∙ z)) (λ z. e (sym (f .is) ∙ z)))
+
+  pub first-data : (s : List ℕ) (p : Point) → Inside s p → 0 < length (dataRun kind false (restOf s p)) → First kind s p 3 (dataRun kind false (restOf s p))
+  first-data s p h l =
       let u = restOf s p in
-      let l : 0 < length (indent kindOf u) = rw (f .line, space-on kindOf _ _ (f .kind ∙ e)) (omega arith) in
-      first s p 1 (indent kindOf u) (unindented kindOf u) h (sym (space-split kindOf u)) l (space-pieces kindOf u ∙ led-some 1 _ _ l)
+      first s p 3 (dataRun kind false u) (dataRest kind false u) h (sym (data-split kind false u)) l (data-pieces kind false u ∙ led-some 3 _ _ l)
 
-  pub first-divider : k ≡ 3 → First s p 10 (getD s (p .index) 0 ∷ [])
-  unfolding rowPieces
-  first-divider e =
-      first s p 10 (getD s (p .index) 0 ∷ []) (restOf s (overAt s p)) h (f .line) (omega arith) (rw (f .line) (simp (f .kind, e) (single _ _)))
+  -- ## Reading on
 
-  pub data-ahead : (k ≡ 1 → ⊥) → (k ≡ 3 → ⊥) → 0 < length (dataRun kindOf false (restOf s p))
-  data-ahead d e = rw (f .line) (data-some kindOf _ _ (λ z. d (sym (f .kind) ∙ z)) (λ z. e (sym (f .kind) ∙ z)))
+  module _ (s : List ℕ) (q : Scan) (n : ℕ) where
+    pub read-none : n ≡ 0 → Counted s q → ReadHere kind s q n (Paused q)
+    unfolding outcome
+    read-none e h = record { is = rw e; left = rw e; good = h }
 
-pub first-data : (s : List ℕ) (p : Point) → Inside s p → 0 < length (dataRun kindOf false (restOf s p)) → First s p 3 (dataRun kindOf false (restOf s p))
-first-data s p h l =
-    let u = restOf s p in
-    first s p 3 (dataRun kindOf false u) (dataRest kindOf false u) h (sym (data-split kindOf false u)) l (data-pieces kindOf false u ∙ led-some 3 _ _ l)
+    pub read-end : (n ≡ 0 → ⊥) → aheadOf kind (drop (q .at .index) s) ≡ 2 → Counted s q → ReadHere kind s q n (Ended q)
+    unfolding outcome rowPieces
+    read-end z e h = go n z (ap (rowPieces kind false) (ends ok (drop (q .at .index) s) e))
+      where
+        go : (n : ℕ) → (n ≡ 0 → ⊥) → piecesAt kind s (q .at) ≡ [] → ReadHere kind s q n (Ended q)
+        go zero z e = absurd (z refl)
+        go (suc n) z e = record { is = rw e; left = rw e; good = h }
 
--- ## Reading on
-
-module _ (s : List ℕ) (q : Scan) (n : ℕ) where
-  pub read-none : n ≡ 0 → Counted s q → Passes s q n (Paused q)
-  unfolding outcome
-  read-none e h = record { is = rw e; left = rw e; good = h }
-
-  pub read-end : (n ≡ 0 → ⊥) → aheadOf kindOf (drop (q .at .index) s) ≡ 2 → Counted s q → Passes s q n (Ended q)
-  unfolding outcome rowPieces
-  read-end z e h = go n z (ap (rowPieces kindOf false) (ends (drop (q .at .index) s) e))
-    where
-      go : (n : ℕ) → (n ≡ 0 → ⊥) → piecesAt s (q .at) ≡ [] → Passes s q n (Ended q)
-      go zero z e = absurd (z refl)
-      go (suc n) z e = record { is = rw e; left = rw e; good = h }
-
-  pub read-on : (m : ℕ) (t : List ℕ) (r : Step) → (n ≡ 0 → ⊥) → First s (q .at) m t → Passes s (stepped q (record { name = m; text = t })) (n - 1) r → Passes s q n r
-  unfolding outcome
-  read-on m t r z f h = go n z h
-    where
-      go : (n : ℕ) → (n ≡ 0 → ⊥) → Passes s (stepped q (record { name = m; text = t })) (n - 1) r → Passes s q n r
-      go zero z h = absurd (z refl)
-      go (suc n) z h =
-          let g = rw sub-one at h in
-          record { is = rw (f .pieces) (g .is); left = rw (f .pieces) (g .left); good = g .good }
+    pub read-on : (m : ℕ) (t : List ℕ) (r : Step) → (n ≡ 0 → ⊥) → First kind s (q .at) m t → ReadHere kind s (stepped q (record { name = m; text = t })) (n - 1) r → ReadHere kind s q n r
+    unfolding outcome
+    read-on m t r z f h = go n z h
+      where
+        go : (n : ℕ) → (n ≡ 0 → ⊥) → ReadHere kind s (stepped q (record { name = m; text = t })) (n - 1) r → ReadHere kind s q n r
+        go zero z h = absurd (z refl)
+        go (suc n) z h =
+            let g = rw sub-one at h in
+            record { is = rw (f .pieces) (g .is); left = rw (f .pieces) (g .left); good = g .good }
 
 one-more : (b : Bool) (n : ℕ) → cond b (n + 1) n ≤ n + 1
 one-more true n = omega arith
 one-more false n = omega arith
 
--- a piece takes a byte at least, so no counter passes the bytes
-pub step-counted : (s : List ℕ) (q : Scan) (n : ℕ) (t : List ℕ) → First s (q .at) n t → Counted s q → Counted s (stepped q (record { name = n; text = t }))
-step-counted s q n t f h =
-    let l = f .some in
-    record {
-      inside = f .inside;
-      few = omega (arith, h .few);
-      cells = omega (arith, h .cells, one-more (isSolid n && q .seen) (q .size));
-      solids = omega (arith, h .solids, one-more (isSolid n) (q .«size_b»));
-    }
+module _ {kind : ℕ → ℕ} (ok : Reads kind) where
+  -- a piece takes a byte at least, so no counter passes the bytes
+  pub step-counted : (s : List ℕ) (q : Scan) (n : ℕ) (t : List ℕ) → First kind s (q .at) n t → Counted s q → Counted s (stepped q (record { name = n; text = t }))
+  step-counted s q n t f h =
+      let l = f .some in
+      record {
+        inside = f .inside;
+        few = omega (arith, h .few);
+        cells = omega (arith, h .cells, one-more (isSolid n && q .seen) (q .size));
+        solids = omega (arith, h .solids, one-more (isSolid n) (q .«size_b»));
+      }
 
 pub few-pieces : (s : List ℕ) (q : Scan) → Counted s q → q .count < 1000000
 few-pieces s q h = let i = h .inside in omega (arith, h .few, i .within, i .short)
@@ -101,9 +104,10 @@ few-pieces s q h = let i = h .inside in omega (arith, h .few, i .within, i .shor
 pub few-cells : (s : List ℕ) (q : Scan) → Counted s q → (q .size < 1000000) × (q .«size_b» < 1000000)
 few-cells s q h = let i = h .inside in (omega (arith, h .cells, i .within, i .short), omega (arith, h .solids, i .within, i .short))
 
--- the bytes left fall, by more than a rank
-pub bytes-fall : (s : List ℕ) (p : Point) (n : ℕ) (t : List ℕ) → First s p n t → 2 * (length s - past p t .index) + 1 < 2 * (length s - p .index)
-bytes-fall s p n t f = let i = f .inside in omega (arith, f .some, i .within)
+module _ {kind : ℕ → ℕ} (ok : Reads kind) where
+  -- the bytes left fall, by more than a rank
+  pub bytes-fall : (s : List ℕ) (p : Point) (n : ℕ) (t : List ℕ) → First kind s p n t → 2 * (length s - past p t .index) + 1 < 2 * (length s - p .index)
+  bytes-fall s p n t f = let i = f .inside in omega (arith, f .some, i .within)
 
 -- ## A pause, and the end
 
@@ -119,13 +123,13 @@ end-walks zero q p xs e = absurd (let z : _≡_ {A = ℕ} 0 1 = cc in omega arit
 end-walks (suc n) q p [] e = cc
 end-walks (suc n) q p (x ∷ xs) e = end-walks n (stepped q x) p xs e
 
-module _ (s : List ℕ) (q p : Scan) (n : ℕ) where
+module _ {kind : ℕ → ℕ} (ok : Reads kind) (s : List ℕ) (q p : Scan) (n : ℕ) where
   -- a paused state continues to the same end, n pieces later
-  pub paused-whole : Passes s q n (Paused p) → whole s p ≡ whole s q
-  paused-whole h = ap (walked p) (h .left) ∙ pause-walks n q p (piecesAt s (q .at)) (h .is) .0
+  pub paused-whole : (ReadHere kind) s q n (Paused p) → whole kind s p ≡ whole kind s q
+  paused-whole h = ap (walked p) (h .left) ∙ pause-walks n q p (piecesAt kind s (q .at)) (h .is) .0
 
-  pub paused-count : Passes s q n (Paused p) → p .count ≡ q .count + n
-  paused-count h = pause-walks n q p (piecesAt s (q .at)) (h .is) .1
+  pub paused-count : (ReadHere kind) s q n (Paused p) → p .count ≡ q .count + n
+  paused-count h = pause-walks n q p (piecesAt kind s (q .at)) (h .is) .1
 
-  pub ended-whole : Passes s q n (Ended p) → p ≡ whole s q
-  ended-whole h = end-walks n q p (piecesAt s (q .at)) (h .is)
+  pub ended-whole : (ReadHere kind) s q n (Ended p) → p ≡ whole kind s q
+  ended-whole h = end-walks n q p (piecesAt kind s (q .at)) (h .is)

@@ -9,7 +9,7 @@ use borrow.Author.Tests.{eq-eqb, ne-eqb, eqb-true, eqb-false, ltb-true, ltb-fals
 use lib.Dec.{eqb, ltb}
 use lib.ListN.{length, length-append}
 use Rattle.tokenizer.specs.declared.event.Point.{Point}
-use Rattle.tokenizer.specs.Bytes.{kindOf}
+use Rattle.tokenizer.specs.Bytes.{Reads}
 use Rattle.tokenizer.specs.Points.{past, nextLine}
 use Rattle.tokenizer.specs.Events.{LineEnding, GfmTableHead, enter, leave}
 use Rattle.tokenizer.specs.Slots.{slotsOf}
@@ -102,65 +102,66 @@ module _ (s : List ℕ) (i : ℕ) where
 
 -- ## Heads
 
-module _ (s : List ℕ) (i : ℕ) (on stray : Bool) (n : ℕ) where
-  pub head-place : (placeRefusal s i ≡ 0 → ⊥) → headRefused (placeRefusal s i) ≡ headPlan s i on stray n
-  unfolding headPlan
-  head-place z = simp (ne-eqb (placeRefusal s i) 0 z)
-
-  module _ (e : placeRefusal s i ≡ 0) where
-    abbrev p : Point
-    p = pointAt s i
-
-    abbrev no : ℕ
-    no = headRefusal kindOf on stray (lineAt s p) (lineAt s (after s p))
-
-    pub head-no : (no ≡ 0 → ⊥) → headRefused no ≡ headPlan s i on stray n
+module _ {kind : ℕ → ℕ} (ok : Reads kind) where
+  module _ (s : List ℕ) (i : ℕ) (on stray : Bool) (n : ℕ) where
+    pub head-place : (placeRefusal s i ≡ 0 → ⊥) → headRefused (placeRefusal s i) ≡ headPlan kind s i on stray n
     unfolding headPlan
-    head-no z = simp (eq-eqb (placeRefusal s i) 0 e, ne-eqb no 0 z)
+    head-place z = simp (ne-eqb (placeRefusal s i) 0 z)
 
-    pub head-yes : no ≡ 0 → headFound (length (headEventsAt s p)) p (openedAt s p) n ≡ headPlan s i on stray n
-    unfolding headPlan
-    head-yes z = simp (eq-eqb (placeRefusal s i) 0 e, eq-eqb no 0 z) (go (ltb n (length (headEventsAt s p))))
-      where
-        go : (t : Bool) → cond t (headRefused 9) (record { answer = head.Accepted (length (headEventsAt s p)) (openedAt s p .end .index) (openedAt s p .cells); cursor = Begin p })
-            ≡ record {
-              answer = cond (eqb (cond t 9 0) 0) (head.Accepted (length (headEventsAt s p)) (openedAt s p .end .index) (openedAt s p .cells)) (head.Refused (cond t 9 0));
-              cursor = cond (eqb (cond t 9 0) 0) (Begin p) nowhere;
-            }
-        go true = refl
-        go false = refl
+    module _ (e : placeRefusal s i ≡ 0) where
+      abbrev p : Point
+      p = pointAt s i
 
--- ## Rows
+      abbrev no : ℕ
+      no = headRefusal kind on stray (lineAt s p) (lineAt s (after s p))
 
-module _ (s : List ℕ) (i : ℕ) (lazy : Bool) (n : ℕ) where
-  pub row-place : (placeRefusal s i ≡ 0 → ⊥) → rowRefused (placeRefusal s i) ≡ rowPlan s i lazy n
-  unfolding rowPlan
-  row-place z = simp (ne-eqb (placeRefusal s i) 0 z)
+      pub head-no : (no ≡ 0 → ⊥) → headRefused no ≡ headPlan kind s i on stray n
+      unfolding headPlan
+      head-no z = simp (eq-eqb (placeRefusal s i) 0 e, ne-eqb no 0 z)
 
-  module _ (e : placeRefusal s i ≡ 0) where
-    pub row-lazy : lazy ≡ true → rowRefused 5 ≡ rowPlan s i lazy n
-    unfolding rowPlan
-    row-lazy f = simp (eq-eqb (placeRefusal s i) 0 e, f)
-
-    module _ (f : lazy ≡ false) where
-      abbrev at : Point
-      at = pointAt s i
-
-      pub row-blank : blank kindOf (restOf s at) ≡ true → rowRefused 8 ≡ rowPlan s i lazy n
-      unfolding rowPlan
-      row-blank g = simp (eq-eqb (placeRefusal s i) 0 e, f, g)
-
-      pub row-yes : blank kindOf (restOf s at) ≡ false → rowFound (length (rowEventsAt s at)) at (past at (restOf s at)) n ≡ rowPlan s i lazy n
-      unfolding rowPlan
-      row-yes g = simp (eq-eqb (placeRefusal s i) 0 e, f, g) (go (ltb n (length (rowEventsAt s at))))
+      pub head-yes : no ≡ 0 → headFound (length (headEventsAt kind s p)) p (openedAt kind s p) n ≡ headPlan kind s i on stray n
+      unfolding headPlan
+      head-yes z = simp (eq-eqb (placeRefusal s i) 0 e, eq-eqb no 0 z) (go (ltb n (length (headEventsAt kind s p))))
         where
-          go : (t : Bool) → cond t (rowRefused 9) (record { answer = row.Accepted (length (rowEventsAt s at)) (past at (restOf s at) .index); cursor = Enter Body at })
+          go : (t : Bool) → cond t (headRefused 9) (record { answer = head.Accepted (length (headEventsAt kind s p)) (openedAt kind s p .end .index) (openedAt kind s p .cells); cursor = Begin p })
               ≡ record {
-                answer = cond (eqb (cond t 9 0) 0) (row.Accepted (length (rowEventsAt s at)) (past at (restOf s at) .index)) (row.Refused (cond t 9 0));
-                cursor = cond (eqb (cond t 9 0) 0) (Enter Body at) nowhere;
+                answer = cond (eqb (cond t 9 0) 0) (head.Accepted (length (headEventsAt kind s p)) (openedAt kind s p .end .index) (openedAt kind s p .cells)) (head.Refused (cond t 9 0));
+                cursor = cond (eqb (cond t 9 0) 0) (Begin p) nowhere;
               }
           go true = refl
           go false = refl
+
+  -- ## Rows
+
+  module _ (s : List ℕ) (i : ℕ) (lazy : Bool) (n : ℕ) where
+    pub row-place : (placeRefusal s i ≡ 0 → ⊥) → rowRefused (placeRefusal s i) ≡ rowPlan kind s i lazy n
+    unfolding rowPlan
+    row-place z = simp (ne-eqb (placeRefusal s i) 0 z)
+
+    module _ (e : placeRefusal s i ≡ 0) where
+      pub row-lazy : lazy ≡ true → rowRefused 5 ≡ rowPlan kind s i lazy n
+      unfolding rowPlan
+      row-lazy f = simp (eq-eqb (placeRefusal s i) 0 e, f)
+
+      module _ (f : lazy ≡ false) where
+        abbrev at : Point
+        at = pointAt s i
+
+        pub row-blank : blank kind (restOf s at) ≡ true → rowRefused 8 ≡ rowPlan kind s i lazy n
+        unfolding rowPlan
+        row-blank g = simp (eq-eqb (placeRefusal s i) 0 e, f, g)
+
+        pub row-yes : blank kind (restOf s at) ≡ false → rowFound (length (rowEventsAt kind s at)) at (past at (restOf s at)) n ≡ rowPlan kind s i lazy n
+        unfolding rowPlan
+        row-yes g = simp (eq-eqb (placeRefusal s i) 0 e, f, g) (go (ltb n (length (rowEventsAt kind s at))))
+          where
+            go : (t : Bool) → cond t (rowRefused 9) (record { answer = row.Accepted (length (rowEventsAt kind s at)) (past at (restOf s at) .index); cursor = Enter Body at })
+                ≡ record {
+                  answer = cond (eqb (cond t 9 0) 0) (row.Accepted (length (rowEventsAt kind s at)) (past at (restOf s at) .index)) (row.Refused (cond t 9 0));
+                  cursor = cond (eqb (cond t 9 0) 0) (Enter Body at) nowhere;
+                }
+            go true = refl
+            go false = refl
 
 -- ## Slots
 
@@ -171,65 +172,66 @@ or-zero a b e = go (eqb a 0) refl e
     go true f e = (eqb-true a 0 f, e)
     go false f e = absurd (eqb-false a 0 f e)
 
--- what comes from the start of a head whose line has a line end
-coming-head : (s : List ℕ) (p : Point) → (lineAt s p .end ≡ 0 → ⊥) → coming s (λ e. []) (Begin p) ≡ headEventsAt s p
-unfolding coming
-coming-head s p z =
-    let e = past p (restOf s p) in
-    ap (λ (m : ℕ). enter GfmTableHead p ∷ rowFrom s Head p ++ broken s (λ e. []) e m) (end-past s p)
-    ∙ ap (λ (t : Bool). enter GfmTableHead p ∷ rowFrom s Head p ++ cond t [] (enter LineEnding e ∷ leave LineEnding (after s p) ∷ delimited s (λ e. []) (after s p))) (ne-eqb (lineAt s p .end) 0 z)
+module _ {kind : ℕ → ℕ} (ok : Reads kind) where
+  -- what comes from the start of a head whose line has a line end
+  coming-head : (s : List ℕ) (p : Point) → (lineAt s p .end ≡ 0 → ⊥) → coming ok s (λ e. []) (Begin p) ≡ headEventsAt kind s p
+  unfolding coming
+  coming-head s p z =
+      let e = past p (restOf s p) in
+      ap (λ (m : ℕ). enter GfmTableHead p ∷ rowFrom kind s Head p ++ broken ok s (λ e. []) e m) (end-past s p)
+      ∙ ap (λ (t : Bool). enter GfmTableHead p ∷ rowFrom kind s Head p ++ cond t [] (enter LineEnding e ∷ leave LineEnding (after s p) ∷ delimited ok s (λ e. []) (after s p))) (ne-eqb (lineAt s p .end) 0 z)
 
-coming-row : (s : List ℕ) (p : Point) → coming s (λ e. []) (Enter Body p) ≡ rowEventsAt s p
-unfolding coming
-coming-row s p = append-nil (rowEventsAt s p)
+  coming-row : (s : List ℕ) (p : Point) → coming ok s (λ e. []) (Enter Body p) ≡ rowEventsAt kind s p
+  unfolding coming
+  coming-row s p = append-nil (rowEventsAt kind s p)
 
-coming-none : (s : List ℕ) → coming s (λ e. []) nowhere ≡ []
-unfolding coming
-coming-none s = refl
+  coming-none : (s : List ℕ) → coming ok s (λ e. []) nowhere ≡ []
+  unfolding coming
+  coming-none s = refl
 
-module _ (s : List ℕ) (i : ℕ) (on stray : Bool) (n : ℕ) where
-  pub head-good : Good s (headPlan s i on stray n .cursor)
+  module _ (s : List ℕ) (i : ℕ) (on stray : Bool) (n : ℕ) where
+    pub head-good : Good s (headPlan kind s i on stray n .cursor)
+    unfolding headPlan
+    head-good = go (eqb (headNumber kind s i on stray n) 0) refl
+      where
+        go : (t : Bool) → eqb (headNumber kind s i on stray n) 0 ≡ t → Good s (cond t (Begin (pointAt s i)) nowhere)
+        go true e = place-inside s i (or-zero _ _ (eqb-true (headNumber kind s i on stray n) 0 e) .0)
+        go false e = omega arith
+
+    pub head-slots : (gave kind) s n (headPlan kind s i on stray n .cursor) ≡ headSlots kind s i on stray n
+    unfolding headPlan
+    head-slots = gave-slots ok s n (headPlan kind s i on stray n .cursor) head-good ∙ ap (slotsOf n) (go (eqb (headNumber kind s i on stray n) 0) refl)
+      where
+        go : (t : Bool) → eqb (headNumber kind s i on stray n) 0 ≡ t → coming ok s (λ e. []) (cond t (Begin (pointAt s i)) nowhere) ≡ cond t (headEventsAt kind s (pointAt s i)) []
+        go true e =
+            let q = pointAt s i in
+            let m = slotRefusal n (headEventsAt kind s q) in
+            let r = headRefusal kind on stray (lineAt s q) (lineAt s (after s q)) in
+            let z : r ≡ 0 = or-zero r m (or-zero (placeRefusal s i) (orElse r m) (eqb-true (headNumber kind s i on stray n) 0 e) .1) .0 in
+            coming-head s (pointAt s i) (refused-end ok on stray (lineAt s (pointAt s i)) (lineAt s (after s (pointAt s i))) z)
+        go false e = coming-none s
+
+  module _ (s : List ℕ) (i : ℕ) (lazy : Bool) (n : ℕ) where
+    pub row-good : Good s (rowPlan kind s i lazy n .cursor)
+    unfolding rowPlan
+    row-good = go (eqb (rowNumber kind s i lazy n) 0) refl
+      where
+        go : (t : Bool) → eqb (rowNumber kind s i lazy n) 0 ≡ t → Good s (cond t (Enter Body (pointAt s i)) nowhere)
+        go true e = place-inside s i (or-zero _ _ (eqb-true (rowNumber kind s i lazy n) 0 e) .0)
+        go false e = omega arith
+
+    pub row-slots : (gave kind) s n (rowPlan kind s i lazy n .cursor) ≡ rowSlots kind s i lazy n
+    unfolding rowPlan
+    row-slots = gave-slots ok s n (rowPlan kind s i lazy n .cursor) row-good ∙ ap (slotsOf n) (go (eqb (rowNumber kind s i lazy n) 0))
+      where
+        go : (t : Bool) → coming ok s (λ e. []) (cond t (Enter Body (pointAt s i)) nowhere) ≡ cond t (rowEventsAt kind s (pointAt s i)) []
+        go true = coming-row s (pointAt s i)
+        go false = coming-none s
+
+  pub head-answer : (s : List ℕ) (i : ℕ) (on stray : Bool) (n : ℕ) → headPlan kind s i on stray n .answer ≡ headOf kind s i on stray n
   unfolding headPlan
-  head-good = go (eqb (headNumber s i on stray n) 0) refl
-    where
-      go : (t : Bool) → eqb (headNumber s i on stray n) 0 ≡ t → Good s (cond t (Begin (pointAt s i)) nowhere)
-      go true e = place-inside s i (or-zero _ _ (eqb-true (headNumber s i on stray n) 0 e) .0)
-      go false e = omega arith
+  head-answer s i on stray n = refl
 
-  pub head-slots : gave s n (headPlan s i on stray n .cursor) ≡ headSlots s i on stray n
-  unfolding headPlan
-  head-slots = gave-slots s n (headPlan s i on stray n .cursor) head-good ∙ ap (slotsOf n) (go (eqb (headNumber s i on stray n) 0) refl)
-    where
-      go : (t : Bool) → eqb (headNumber s i on stray n) 0 ≡ t → coming s (λ e. []) (cond t (Begin (pointAt s i)) nowhere) ≡ cond t (headEventsAt s (pointAt s i)) []
-      go true e =
-          let q = pointAt s i in
-          let m = slotRefusal n (headEventsAt s q) in
-          let r = headRefusal kindOf on stray (lineAt s q) (lineAt s (after s q)) in
-          let z : r ≡ 0 = or-zero r m (or-zero (placeRefusal s i) (orElse r m) (eqb-true (headNumber s i on stray n) 0 e) .1) .0 in
-          coming-head s (pointAt s i) (refused-end on stray (lineAt s (pointAt s i)) (lineAt s (after s (pointAt s i))) z)
-      go false e = coming-none s
-
-module _ (s : List ℕ) (i : ℕ) (lazy : Bool) (n : ℕ) where
-  pub row-good : Good s (rowPlan s i lazy n .cursor)
+  pub row-answer : (s : List ℕ) (i : ℕ) (lazy : Bool) (n : ℕ) → rowPlan kind s i lazy n .answer ≡ rowOf kind s i lazy n
   unfolding rowPlan
-  row-good = go (eqb (rowNumber s i lazy n) 0) refl
-    where
-      go : (t : Bool) → eqb (rowNumber s i lazy n) 0 ≡ t → Good s (cond t (Enter Body (pointAt s i)) nowhere)
-      go true e = place-inside s i (or-zero _ _ (eqb-true (rowNumber s i lazy n) 0 e) .0)
-      go false e = omega arith
-
-  pub row-slots : gave s n (rowPlan s i lazy n .cursor) ≡ rowSlots s i lazy n
-  unfolding rowPlan
-  row-slots = gave-slots s n (rowPlan s i lazy n .cursor) row-good ∙ ap (slotsOf n) (go (eqb (rowNumber s i lazy n) 0))
-    where
-      go : (t : Bool) → coming s (λ e. []) (cond t (Enter Body (pointAt s i)) nowhere) ≡ cond t (rowEventsAt s (pointAt s i)) []
-      go true = coming-row s (pointAt s i)
-      go false = coming-none s
-
-pub head-answer : (s : List ℕ) (i : ℕ) (on stray : Bool) (n : ℕ) → headPlan s i on stray n .answer ≡ headOf s i on stray n
-unfolding headPlan
-head-answer s i on stray n = refl
-
-pub row-answer : (s : List ℕ) (i : ℕ) (lazy : Bool) (n : ℕ) → rowPlan s i lazy n .answer ≡ rowOf s i lazy n
-unfolding rowPlan
-row-answer s i lazy n = refl
+  row-answer s i lazy n = refl

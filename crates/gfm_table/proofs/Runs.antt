@@ -9,7 +9,7 @@ use native.Mathlib.Nat.{add-zero}
 use native.Mathlib.Omega.{arith}
 use borrow.Author.Tests.{eqb-true, eq-eqb, ne-eqb, eqb-false, not-true}
 use lib.Dec.{eqb}
-use Rattle.tokenizer.specs.Bytes.{kindOf}
+use Rattle.tokenizer.specs.Bytes.{Reads}
 use Rattle.tokenizer.specs.Points.{columnAfter, columnPast}
 use Rattle.tokenizer.proofs.Runs.{split}
 use lib.ListN.{length}
@@ -183,22 +183,22 @@ module _ (kind : ℕ → ℕ) where
 
 -- ## Columns
 
-tabless : (odd : Bool) (b : ℕ) → eqb (rowName kindOf odd b) 3 ≡ true → eqb b 9 ≡ false
-unfolding kindOf
-tabless odd b e = go (eqb b 9) refl
-  where
-    go : (t : Bool) → eqb b 9 ≡ t → t ≡ false
-    go true f = absurd (true≢false (sym e ∙ ap (λ (c : ℕ). eqb (rowName kindOf odd c) 3) (eqb-true b 9 f)))
-    go false f = refl
+module _ {kind : ℕ → ℕ} (ok : Reads kind) where
+  tabless : (odd : Bool) (b : ℕ) → eqb (rowName kind odd b) 3 ≡ true → eqb b 9 ≡ false
+  tabless odd b e = go (eqb b 9) refl
+    where
+      go : (t : Bool) → eqb b 9 ≡ t → t ≡ false
+      go true f = absurd (true≢false (sym e ∙ simp (eqb-true (kind b) 1 (ok .spaces b ∙ ap (λ (t : Bool). t || eqb b 32) f))))
+      go false f = refl
 
--- no tab lies in data, so each byte is a column
-pub data-columns : (odd : Bool) (u : List ℕ) (c : ℕ) → columnPast c (dataRun kindOf odd u) ≡ c + length (dataRun kindOf odd u)
-unfolding columnPast columnAfter dataRun
-data-columns odd [] c = sym (add-zero c)
-data-columns odd (b ∷ u) c = go (eqb (rowName kindOf odd b) 3) refl (data-columns (oddAfter kindOf odd b) u (c + 1))
-  where
-    go : (t : Bool) → eqb (rowName kindOf odd b) 3 ≡ t → columnPast (c + 1) (dataRun kindOf (oddAfter kindOf odd b) u) ≡ c + 1 + length (dataRun kindOf (oddAfter kindOf odd b) u)
-        → columnPast c (cond t (b ∷ dataRun kindOf (oddAfter kindOf odd b) u) []) ≡ c + length (cond t (b ∷ dataRun kindOf (oddAfter kindOf odd b) u) [])
-    go true e h =
-        ap (λ (k : ℕ). columnPast k (dataRun kindOf (oddAfter kindOf odd b) u)) (ap (λ (t : Bool). cond t ((c + 3) / 4 * 4 + 1) (c + 1)) (tabless odd b e)) ∙ h ∙ (omega arith)
-    go false e h = sym (add-zero c)
+  -- no tab lies in data, so each byte is a column
+  pub data-columns : (odd : Bool) (u : List ℕ) (c : ℕ) → columnPast c (dataRun kind odd u) ≡ c + length (dataRun kind odd u)
+  unfolding columnPast columnAfter dataRun
+  data-columns odd [] c = sym (add-zero c)
+  data-columns odd (b ∷ u) c = go (eqb (rowName kind odd b) 3) refl (data-columns (oddAfter kind odd b) u (c + 1))
+    where
+      go : (t : Bool) → eqb (rowName kind odd b) 3 ≡ t → columnPast (c + 1) (dataRun kind (oddAfter kind odd b) u) ≡ c + 1 + length (dataRun kind (oddAfter kind odd b) u)
+          → columnPast c (cond t (b ∷ dataRun kind (oddAfter kind odd b) u) []) ≡ c + length (cond t (b ∷ dataRun kind (oddAfter kind odd b) u) [])
+      go true e h =
+          ap (λ (k : ℕ). columnPast k (dataRun kind (oddAfter kind odd b) u)) (ap (λ (t : Bool). cond t ((c + 3) / 4 * 4 + 1) (c + 1)) (tabless odd b e)) ∙ h ∙ (omega arith)
+      go false e h = sym (add-zero c)

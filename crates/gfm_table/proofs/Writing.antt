@@ -21,18 +21,19 @@ use Rattle.gfm_table.specs.Rows.{Piece, passed, allBoth}
 use Rattle.gfm_table.specs.Stream.{piecesOf}
 use Rattle.gfm_table.specs.Places.{pointIn, nextAt, rowEnd, rowWrote}
 use Rattle.gfm_table.proofs.Coming.{no-pieces, Piecing, Next, none, some, next-piece}
+use Rattle.tokenizer.specs.Bytes.{Reads}
 
 -- before the first piece
 abbrev pub begun : ℕ → ℕ → Reached
 begun i k = record { at = i; column = 1; slot = k }
 
-module _ (s : List ℕ) (t : Part) (l : ℕ) where
+module _ {kind : ℕ → ℕ} (ok : Reads kind) (s : List ℕ) (t : Part) (l : ℕ) where
   -- the point that the writing has come to, and the next piece there
   abbrev pub pointAt : Reached → Point
   pointAt a = pointIn l (a .at) (a .column)
 
   abbrev pub nextOf : Reached → Placed
-  nextOf a = nextAt (a .at) (a .column) (piecesOf t (lineBody (drop (a .at) s)))
+  nextOf a = nextAt (a .at) (a .column) (piecesOf kind t (lineBody (drop (a .at) s)))
 
   -- its two events
   abbrev pub entryOf : Reached → Event
@@ -47,7 +48,7 @@ module _ (s : List ℕ) (t : Part) (l : ℕ) where
 
   -- where the pieces end, and what all slots are then
   abbrev pub makes : Reached → List Event → Reached × List Event
-  makes a zs = (rowEnd s t (pointAt a) (a .slot), rowWrote s t (pointAt a) (a .slot) zs)
+  makes a zs = (rowEnd kind s t (pointAt a) (a .slot), rowWrote kind s t (pointAt a) (a .slot) zs)
 
   -- a place in the sheet, and a slot that does not grow faster than the bytes
   abbrev pub Good : Reached → Type 0
@@ -59,13 +60,13 @@ module _ (s : List ℕ) (t : Part) (l : ℕ) where
     pub more : (zs : List Event) → makes a zs ≡ makes (onward a) (set (set zs (a .slot) (entryOf a)) (a .slot + 1) (exitOf a))
     pub long : a .at < onward a .at
 
-  goes-piece : (a : Reached) → Good a → {n : ℕ} {u : List ℕ} → Piecing s t (pointAt a) n u → Goes a
+  goes-piece : (a : Reached) → Good a → {n : ℕ} {u : List ℕ} → Piecing kind s t (pointAt a) n u → Goes a
   unfolding allBoth passed
   goes-piece a h {n} {u} f =
       let p = pointAt a in
       let q = past p u in
       let k = a .slot in
-      let ys = piecesOf t (restOf s q) in
+      let ys = piecesOf kind t (restOf s q) in
       let e = sym (f .line) in
       let m : k + 2 * length (record { name = n; text = u } ∷ ys) ≡ k + 2 + 2 * length ys = omega arith in
       let es = allBoth (passed q ys) in
@@ -78,24 +79,24 @@ module _ (s : List ℕ) (t : Part) (l : ℕ) where
       }
 
   -- before the end of the line
-  pub goes : (a : Reached) → Good a → a .at < rowEnd s t (pointAt a) (a .slot) .at → Goes a
-  goes a h l = go (next-piece s (pointAt a) (h .0) t)
+  pub goes : (a : Reached) → Good a → a .at < rowEnd kind s t (pointAt a) (a .slot) .at → Goes a
+  goes a h l = go (next-piece ok s (pointAt a) (h .0) t)
     where
-      go : Next s t (pointAt a) → Goes a
+      go : (Next kind) s t (pointAt a) → Goes a
       go (none e) = absurd (omega (arith, ap length e, l))
       go (some f) = goes-piece a h f
 
   -- at its end none is left
-  pub stops : (a : Reached) (zs : List Event) → Good a → rowEnd s t (pointAt a) (a .slot) .at ≤ a .at → makes a zs ≡ (a, zs)
+  pub stops : (a : Reached) (zs : List Event) → Good a → rowEnd kind s t (pointAt a) (a .slot) .at ≤ a .at → makes a zs ≡ (a, zs)
   unfolding allBoth passed
-  stops a zs h l = go (next-piece s (pointAt a) (h .0) t)
+  stops a zs h l = go (next-piece ok s (pointAt a) (h .0) t)
     where
-      go : Next s t (pointAt a) → makes a zs ≡ (a, zs)
+      go : (Next kind) s t (pointAt a) → makes a zs ≡ (a, zs)
       go (none e) =
           let p = pointAt a in
-          let n = ap (piecesOf t) e ∙ no-pieces t in
+          let n = ap (piecesOf kind t) e ∙ no-pieces ok t in
           let q : past p (restOf s p) ≡ p = ap (past p) e ∙ past-none p refl in
-          let k : a .slot + 2 * length (piecesOf t (restOf s p)) ≡ a .slot = omega (arith, ap length n) in
-          let w : rowWrote s t p (a .slot) zs ≡ zs = ap (λ (xs : List Piece). wrote (a .slot) (allBoth (passed p xs)) zs) n ∙ wrote-none (a .slot) zs in
+          let k : a .slot + 2 * length (piecesOf kind t (restOf s p)) ≡ a .slot = omega (arith, ap length n) in
+          let w : (rowWrote kind) s t p (a .slot) zs ≡ zs = ap (λ (xs : List Piece). wrote (a .slot) (allBoth (passed p xs)) zs) n ∙ wrote-none (a .slot) zs in
           λ i. (record { at = q i .index; column = q i .column; slot = k i }, w i)
       go (some f) = absurd (omega (arith, ap (λ (q : Point). q .index) (f .line), l, f .long))

@@ -6,7 +6,6 @@ use lib.Dec.{eqb, ltb}
 use lib.ListN.{length}
 use Rattle.tokenizer.specs.declared.event.Point.{Point}
 use Rattle.tokenizer.specs.declared.event.Event.{Event}
-use Rattle.tokenizer.specs.Bytes.{kindOf}
 use Rattle.tokenizer.specs.Points.{start, past}
 use Rattle.tokenizer.specs.Slots.{slotsOf}
 use Rattle.tokenizer.specs.Lines.{startsLine, lineNumber, blank}
@@ -33,8 +32,8 @@ abbrev pub placeRefusal : List ℕ → ℕ → ℕ
 placeRefusal s i = cond (ltb 65536 (length s)) 1 (cond (startsLine s i) 0 2)
 
 -- questions 5 and 8 of a row
-abbrev pub lineRefusal : Bool → List ℕ → ℕ
-lineRefusal lazy u = cond lazy 5 (cond (blank kindOf u) 8 0)
+abbrev pub lineRefusal : (ℕ → ℕ) → Bool → List ℕ → ℕ
+lineRefusal kind lazy u = cond lazy 5 (cond (blank kind u) 8 0)
 
 -- question 9, with n slots for some events
 abbrev pub slotRefusal : ℕ → List Event → ℕ
@@ -55,8 +54,8 @@ nowhere = Ended Body start
 -- ## Heads
 
 -- the events of a head at a point
-abbrev pub headEventsAt : List ℕ → Point → List Event
-headEventsAt s p = headEvents kindOf p (lineAt s p) (lineAt s (after s p))
+abbrev pub headEventsAt : (ℕ → ℕ) → List ℕ → Point → List Event
+headEventsAt kind s p = headEvents kind p (lineAt s p) (lineAt s (after s p))
 
 -- a head that is refused: nothing comes
 abbrev pub headRefused : ℕ → HeadPlan
@@ -66,24 +65,24 @@ headRefused k = record { answer = head.Refused k; cursor = nowhere }
 abbrev pub headFound : ℕ → Point → Opened → ℕ → HeadPlan
 headFound m p o n = cond (ltb n m) (headRefused 9) (record { answer = head.Accepted m (o .end .index) (o .cells); cursor = Begin p })
 
-module _ (s : List ℕ) (i : ℕ) (on stray : Bool) (n : ℕ) where
+module _ (kind : ℕ → ℕ) (s : List ℕ) (i : ℕ) (on stray : Bool) (n : ℕ) where
   -- the number of the first question that a head at an offset gets a "no" to, or 0
   abbrev pub headNumber : ℕ
   headNumber =
       orElse (placeRefusal s i)
-      (orElse (headRefusal kindOf on stray (lineAt s (pointAt s i)) (lineAt s (after s (pointAt s i))))
-      (slotRefusal n (headEventsAt s (pointAt s i))))
+      (orElse (headRefusal kind on stray (lineAt s (pointAt s i)) (lineAt s (after s (pointAt s i))))
+      (slotRefusal n (headEventsAt kind s (pointAt s i))))
 
   -- accepted: the number of events, where the delimiter row ends, and the cells
   abbrev pub headOf : Head
   headOf =
       cond (eqb headNumber 0)
-      (head.Accepted (length (headEventsAt s (pointAt s i))) (openedAt s (pointAt s i) .end .index) (openedAt s (pointAt s i) .cells))
+      (head.Accepted (length (headEventsAt kind s (pointAt s i))) (openedAt kind s (pointAt s i) .end .index) (openedAt kind s (pointAt s i) .cells))
       (head.Refused headNumber)
 
   -- the raw slots: the events and then blanks, or blanks
   abbrev pub headSlots : List Event
-  headSlots = slotsOf n (cond (eqb headNumber 0) (headEventsAt s (pointAt s i)) [])
+  headSlots = slotsOf n (cond (eqb headNumber 0) (headEventsAt kind s (pointAt s i)) [])
 
   -- the answer, and where the events come from
   unfoldable pub headPlan : HeadPlan
@@ -92,8 +91,8 @@ module _ (s : List ℕ) (i : ℕ) (on stray : Bool) (n : ℕ) where
 -- ## Rows
 
 -- the events of a row at a point
-abbrev pub rowEventsAt : List ℕ → Point → List Event
-rowEventsAt s p = rawRow (textRow kindOf p (restOf s p))
+abbrev pub rowEventsAt : (ℕ → ℕ) → List ℕ → Point → List Event
+rowEventsAt kind s p = rawRow (textRow kind p (restOf s p))
 
 -- a row that is refused: nothing comes
 abbrev pub rowRefused : ℕ → RowPlan
@@ -103,19 +102,19 @@ rowRefused k = record { answer = row.Refused k; cursor = nowhere }
 abbrev pub rowFound : ℕ → Point → Point → ℕ → RowPlan
 rowFound m p e n = cond (ltb n m) (rowRefused 9) (record { answer = row.Accepted m (e .index); cursor = Enter Body p })
 
-module _ (s : List ℕ) (i : ℕ) (lazy : Bool) (n : ℕ) where
+module _ (kind : ℕ → ℕ) (s : List ℕ) (i : ℕ) (lazy : Bool) (n : ℕ) where
   -- the number of the first question that a row at an offset gets a "no" to, or 0
   abbrev pub rowNumber : ℕ
-  rowNumber = orElse (placeRefusal s i) (orElse (lineRefusal lazy (restOf s (pointAt s i))) (slotRefusal n (rowEventsAt s (pointAt s i))))
+  rowNumber = orElse (placeRefusal s i) (orElse (lineRefusal kind lazy (restOf s (pointAt s i))) (slotRefusal n (rowEventsAt kind s (pointAt s i))))
 
   -- accepted: the number of events, and where the row ends
   abbrev pub rowOf : Row
   rowOf =
-      cond (eqb rowNumber 0) (row.Accepted (length (rowEventsAt s (pointAt s i))) (past (pointAt s i) (restOf s (pointAt s i)) .index)) (row.Refused rowNumber)
+      cond (eqb rowNumber 0) (row.Accepted (length (rowEventsAt kind s (pointAt s i))) (past (pointAt s i) (restOf s (pointAt s i)) .index)) (row.Refused rowNumber)
 
   -- the raw slots: the events and then blanks, or blanks
   abbrev pub rowSlots : List Event
-  rowSlots = slotsOf n (cond (eqb rowNumber 0) (rowEventsAt s (pointAt s i)) [])
+  rowSlots = slotsOf n (cond (eqb rowNumber 0) (rowEventsAt kind s (pointAt s i)) [])
 
   -- the answer, and where the events come from
   unfoldable pub rowPlan : RowPlan

@@ -11,7 +11,6 @@ use Rattle.gfm_table.specs.declared.states.Scan.{Scan}
 use Rattle.gfm_table.specs.declared.states.Step.{Step}
 use Rattle.gfm_table.specs.declared.pieces.HeadRow.{HeadRow}
 use Rattle.gfm_table.specs.declared.states.Step.the-variants.{Paused, Ended}
-use Rattle.tokenizer.specs.Bytes.{kindOf}
 use Rattle.tokenizer.specs.Events
 use Rattle.tokenizer.specs.Points.{past}
 use Rattle.tokenizer.specs.Lines.{unindented}
@@ -81,13 +80,14 @@ abbrev pub stateOf : Step → Scan
 stateOf (Paused q) = q
 stateOf (Ended q) = q
 
--- the pieces that are still to come at a point
-abbrev pub piecesAt : List ℕ → Point → List Piece
-piecesAt s p = rowPieces kindOf false (restOf s p)
+module _ (kind : ℕ → ℕ) where
+  -- the pieces that are still to come at a point
+  abbrev pub piecesAt : List ℕ → Point → List Piece
+  piecesAt s p = rowPieces kind false (restOf s p)
 
--- the state at the end of the line
-abbrev pub whole : List ℕ → Scan → Scan
-whole s q = walked q (piecesAt s (q .at))
+  -- the state at the end of the line
+  abbrev pub whole : List ℕ → Scan → Scan
+  whole s q = walked q (piecesAt s (q .at))
 
 -- no counter has passed the bytes
 pub record Counted (s : List ℕ) (q : Scan) : Type 0 where
@@ -96,44 +96,45 @@ pub record Counted (s : List ℕ) (q : Scan) : Type 0 where
   pub cells : q .size ≤ q .at .index
   pub solids : q .«size_b» ≤ q .at .index + 1
 
--- reading n pieces from a state: the outcome, and what is still to come after it
-pub record Read (s : List ℕ) (q : Scan) (n : ℕ) (xs : List Piece) (r : Step) : Type 0 where
-  pub is : r ≡ outcome n q xs
-  pub left : piecesAt s (stateOf r .at) ≡ drop n xs
-  pub good : Counted s (stateOf r)
+module _ (kind : ℕ → ℕ) where
+  -- reading n pieces from a state: the outcome, and what is still to come after it
+  pub record Read (s : List ℕ) (q : Scan) (n : ℕ) (xs : List Piece) (r : Step) : Type 0 where
+    pub is : r ≡ outcome n q xs
+    pub left : (piecesAt kind) s (stateOf r .at) ≡ drop n xs
+    pub good : Counted s (stateOf r)
 
-abbrev pub Passes : List ℕ → Scan → ℕ → Step → Type 0
-Passes s q n r = Read s q n (piecesAt s (q .at)) r
+  abbrev pub ReadHere : List ℕ → Scan → ℕ → Step → Type 0
+  ReadHere s q n r = Read s q n (piecesAt kind s (q .at)) r
 
--- at a byte of data
-pub record AtData (s : List ℕ) (q : Scan) : Type 0 where
-  pub counted : Counted s q
-  pub some : 0 < length (dataRun kindOf false (restOf s (q .at)))
+  -- at a byte of data
+  pub record AtData (s : List ℕ) (q : Scan) : Type 0 where
+    pub counted : Counted s q
+    pub some : 0 < length (dataRun kind false (restOf s (q .at)))
 
--- the piece of data at a state
-abbrev pub dataPiece : List ℕ → Scan → Piece
-dataPiece s q = record { name = Events.Data; text = dataRun kindOf false (restOf s (q .at)) }
+  -- the piece of data at a state
+  abbrev pub dataPiece : List ℕ → Scan → Piece
+  dataPiece s q = record { name = Events.Data; text = dataRun kind false (restOf s (q .at)) }
 
--- ## A row from its start
+  -- ## A row from its start
 
-abbrev pub pipeFirst : List ℕ → Bool
-pipeFirst [] = false
-pipeFirst (b ∷ u) = eqb (kindOf b) 3
+  abbrev pub pipeFirst : List ℕ → Bool
+  pipeFirst [] = false
+  pipeFirst (b ∷ u) = eqb (kind b) 3
 
--- the state at the start of a row: the first solid byte counts double unless it is a divider
-abbrev pub startAt : List ℕ → Point → Scan
-startAt s p =
-    let led = pipeFirst (unindented kindOf (restOf s p)) in
-    record { at = p; from = p; name = 0; count = 0; size = 0; «size_b» = cond led 0 1; seen = not led }
+  -- the state at the start of a row: the first solid byte counts double unless it is a divider
+  abbrev pub startAt : List ℕ → Point → Scan
+  startAt s p =
+      let led = pipeFirst (unindented kind (restOf s p)) in
+      record { at = p; from = p; name = 0; count = 0; size = 0; «size_b» = cond led 0 1; seen = not led }
 
--- a row with the body u is read from p to its end
-pub record RowRead (u : List ℕ) (p : Point) (r : Scan) : Type 0 where
-  pub pieces : r .count ≡ length (rowPieces kindOf false u)
-  pub cells : r .size ≡ headCells kindOf u
-  pub lone : leb (r .«size_b») 1 ≡ loneDivider (solid (rowPieces kindOf false u))
-  pub end : r .at ≡ past p u
+  -- a row with the body u is read from p to its end
+  pub record RowRead (u : List ℕ) (p : Point) (r : Scan) : Type 0 where
+    pub pieces : r .count ≡ length (rowPieces kind false u)
+    pub cells : r .size ≡ headCells kind u
+    pub lone : leb (r .«size_b») 1 ≡ loneDivider (solid (rowPieces kind false u))
+    pub end : r .at ≡ past p u
 
--- a head line with the body u is counted
-pub record HeadRead (u : List ℕ) (r : HeadRow) : Type 0 where
-  pub cells : r .size ≡ headCells kindOf u
-  pub lone : leb (r .«size_b») 1 ≡ loneDivider (solid (rowPieces kindOf false u))
+  -- a head line with the body u is counted
+  pub record HeadRead (u : List ℕ) (r : HeadRow) : Type 0 where
+    pub cells : r .size ≡ headCells kind u
+    pub lone : leb (r .«size_b») 1 ≡ loneDivider (solid (rowPieces kind false u))

@@ -26,12 +26,13 @@ abbrev pub nextAt : ℕ → ℕ → List Piece → Placed
 nextAt i c [] = record { name = 0; end = i; column = c }
 nextAt i c (x ∷ xs) = placed (x .name) i c (x .text)
 
--- where the pieces of a row end that are written from a point on, from the slot k on
-abbrev pub rowEnd : List ℕ → Part → Point → ℕ → Reached
-rowEnd s t p k =
-    let e = past p (restOf s p) in
-    record { at = e .index; column = e .column; slot = k + 2 * length (piecesOf t (restOf s p)) }
+module _ (kind : ℕ → ℕ) where
+  -- where the pieces of a row end that are written from a point on, from the slot k on
+  abbrev pub rowEnd : List ℕ → Part → Point → ℕ → Reached
+  rowEnd s t p k =
+      let e = past p (restOf s p) in
+      record { at = e .index; column = e .column; slot = k + 2 * length (piecesOf kind t (restOf s p)) }
 
--- the slots with the events of these pieces
-abbrev pub rowWrote : List ℕ → Part → Point → ℕ → List Event → List Event
-rowWrote s t p k zs = wrote k (allBoth (passed p (piecesOf t (restOf s p)))) zs
+  -- the slots with the events of these pieces
+  abbrev pub rowWrote : List ℕ → Part → Point → ℕ → List Event → List Event
+  rowWrote s t p k zs = wrote k (allBoth (passed p (piecesOf kind t (restOf s p)))) zs

@@ -6,7 +6,6 @@ use lib.Dec.{eqb}
 use lib.ListN.{drop}
 use Rattle.tokenizer.specs.declared.event.Point.{Point}
 use Rattle.tokenizer.specs.declared.event.Event.{Event}
-use Rattle.tokenizer.specs.Bytes.{kindOf}
 use Rattle.tokenizer.specs.Points.{past, nextLine}
 use Rattle.tokenizer.specs.Events.{LineEnding, GfmTableHead, GfmTableRow, GfmTableDelimiterRow, blankEvent, enter, leave}
 use Rattle.tokenizer.specs.Lines.{endAt}
@@ -27,10 +26,10 @@ nameOf Delimiter = GfmTableDelimiterRow
 nameOf Body = GfmTableRow
 
 -- the pieces of a row
-abbrev pub piecesOf : Part → List ℕ → List Piece
-piecesOf Head u = rowPieces kindOf false u
-piecesOf Delimiter u = delimiterPieces kindOf u
-piecesOf Body u = rowPieces kindOf false u
+abbrev pub piecesOf : (ℕ → ℕ) → Part → List ℕ → List Piece
+piecesOf kind Head u = rowPieces kind false u
+piecesOf kind Delimiter u = delimiterPieces kind u
+piecesOf kind Body u = rowPieces kind false u
 
 -- the first of some pieces: its name and its end
 abbrev pub firstOf : Point → List Piece → Pieced
@@ -38,8 +37,8 @@ firstOf p [] = Nothing
 firstOf p (x ∷ xs) = To (x .name) (past p (x .text))
 
 -- the next piece of a row at a point
-abbrev pub pieceAt : List ℕ → Part → Point → Pieced
-pieceAt s t p = firstOf p (piecesOf t (restOf s p))
+abbrev pub pieceAt : (ℕ → ℕ) → List ℕ → Part → Point → Pieced
+pieceAt kind s t p = firstOf p (piecesOf kind t (restOf s p))
 
 -- between two pieces the next is entered, or the row is left
 abbrev pub betweenOf : Part → Point → Pieced → Stepped
@@ -60,19 +59,20 @@ endedOf s Head p = breakOf p (endAt (drop (p .index) s))
 endedOf s Delimiter p = record { event = leave GfmTableHead p; next = Ended Body p }
 endedOf s Body p = overAt p
 
--- the next event, and the cursor after it
-abbrev pub stepOf : List ℕ → Cursor → Stepped
-stepOf s (Begin p) = record { event = enter GfmTableHead p; next = Enter Head p }
-stepOf s (Enter t p) = record { event = enter (nameOf t) p; next = Between t p }
-stepOf s (Between t p) = betweenOf t p (pieceAt s t p)
-stepOf s (Entered t n p) = record { event = leave n p; next = Between t p }
-stepOf s (Ended t p) = endedOf s t p
-stepOf s (Broken t p) = record { event = leave LineEnding p; next = Enter t p }
+module _ (kind : ℕ → ℕ) where
+  -- the next event, and the cursor after it
+  abbrev pub stepOf : List ℕ → Cursor → Stepped
+  stepOf s (Begin p) = record { event = enter GfmTableHead p; next = Enter Head p }
+  stepOf s (Enter t p) = record { event = enter (nameOf t) p; next = Between t p }
+  stepOf s (Between t p) = betweenOf t p (pieceAt kind s t p)
+  stepOf s (Entered t n p) = record { event = leave n p; next = Between t p }
+  stepOf s (Ended t p) = endedOf s t p
+  stepOf s (Broken t p) = record { event = leave LineEnding p; next = Enter t p }
 
--- the events of n steps
-unfoldable pub gave : List ℕ → ℕ → Cursor → List Event
-gave s zero c = []
-gave s (suc n) c = stepOf s c .event ∷ gave s n (stepOf s c .next)
+  -- the events of n steps
+  unfoldable pub gave : List ℕ → ℕ → Cursor → List Event
+  gave s zero c = []
+  gave s (suc n) c = stepOf s c .event ∷ gave s n (stepOf s c .next)
 
 -- a cursor whose point lies in the sheet, if it is to move
 abbrev pub Good : List ℕ → Cursor → Type 0

@@ -15,7 +15,7 @@ ghost use mathlib.Core.Path.{_≡_};
 ghost use mathlib.Core.Bool.{_||_};
 ghost use Prim.Native.Nat.{_≤_, _+_, _*_};
 ghost use lib.ListN.{length};
-ghost use Rattle.tokenizer.specs.Bytes.{kindOf};
+ghost use Rattle.tokenizer.specs.Bytes.{kindIn, Passes};
 ghost use Rattle.tokenizer.specs.Moves.{restOf, Inside};
 ghost use Rattle.gfm_table.specs.Rows.{delimiterPieces};
 ghost use Rattle.gfm_table.specs.Calls.{placeRefusal, pointAt, nowhere, headRefused, headFound, headPlan, rowRefused, rowFound, rowPlan};
@@ -91,20 +91,20 @@ pub fn head_refused(k: u8) -> HeadPlan
 }
 
 // How many events a head has.
-pub fn head_events(s: &[u8], o: Opened) -> usize
-    requires { ⌜ Inside (now s) (o .delimiter) × (o .pieces ≤ 65536) ⌝ }
-    ensures { λ r. ⌜ r ≡ 2 * (o .pieces + length (delimiterPieces kindOf (restOf (now (s .entry)) (o .delimiter)))) + 8 ⌝ }
+pub fn head_events(s: &[u8], kinds: &[u8], o: Opened) -> usize
+    requires { ⌜ Inside (now s) (o .delimiter) × (o .pieces ≤ 65536) × Passes (now kinds) ⌝ }
+    ensures { λ r. ⌜ r ≡ 2 * (o .pieces + length (delimiterPieces (kindIn (now (kinds .entry))) (restOf (now (s .entry)) (o .delimiter)))) + 8 ⌝ }
 {
     let d = o.delimiter;
-    2 * (o.pieces + marks_from(s, d.index as usize)) as usize + 8
+    2 * (o.pieces + marks_from(s, kinds, d.index as usize)) as usize + 8
 }
 
 // A head that was found: whether the slots suffice.
-pub fn head_found(s: &[u8], p: Point, o: Opened, slots: usize) -> HeadPlan
-    requires { ⌜ Inside (now s) (o .delimiter) × (o .pieces ≤ 65536) ⌝ }
-    ensures { λ r. ⌜ r ≡ headFound (2 * (o .pieces + length (delimiterPieces kindOf (restOf (now (s .entry)) (o .delimiter)))) + 8) p o slots ⌝ }
+pub fn head_found(s: &[u8], kinds: &[u8], p: Point, o: Opened, slots: usize) -> HeadPlan
+    requires { ⌜ Inside (now s) (o .delimiter) × (o .pieces ≤ 65536) × Passes (now kinds) ⌝ }
+    ensures { λ r. ⌜ r ≡ headFound (2 * (o .pieces + length (delimiterPieces (kindIn (now (kinds .entry))) (restOf (now (s .entry)) (o .delimiter)))) + 8) p o slots ⌝ }
 {
-    let n = head_events(s, o);
+    let n = head_events(s, kinds, o);
     if slots < n {
         return head_refused(9);
     }
@@ -120,17 +120,18 @@ pub fn head_found(s: &[u8], p: Point, o: Opened, slots: usize) -> HeadPlan
 }
 
 // Everything about a head but its slots.
-pub fn head_plan(s: &[u8], at: usize, on: bool, stray: bool, slots: usize) -> HeadPlan
-    ensures { λ r. ⌜ r ≡ headPlan (now (s .entry)) at on stray slots ⌝ }
+pub fn head_plan(s: &[u8], kinds: &[u8], at: usize, on: bool, stray: bool, slots: usize) -> HeadPlan
+    requires { ⌜ Passes (now kinds) ⌝ }
+    ensures { λ r. ⌜ r ≡ headPlan (kindIn (now (kinds .entry))) (now (s .entry)) at on stray slots ⌝ }
 {
     let k = place_refusal(s, at);
     if k != 0 {
         return head_refused(k);
     }
     let p = point_at(s, at);
-    match head_at(s, p, on, stray) {
+    match head_at(s, kinds, p, on, stray) {
         Answer::Refused(n) => head_refused(n),
-        Answer::Accepted(o) => head_found(s, p, o, slots),
+        Answer::Accepted(o) => head_found(s, kinds, p, o, slots),
     }
 }
 
@@ -164,8 +165,9 @@ pub fn row_refused(k: u8) -> RowPlan
 }
 
 // Everything about a row but its slots.
-pub fn row_plan(s: &[u8], at: usize, lazy: bool, slots: usize) -> RowPlan
-    ensures { λ r. ⌜ r ≡ rowPlan (now (s .entry)) at lazy slots ⌝ }
+pub fn row_plan(s: &[u8], kinds: &[u8], at: usize, lazy: bool, slots: usize) -> RowPlan
+    requires { ⌜ Passes (now kinds) ⌝ }
+    ensures { λ r. ⌜ r ≡ rowPlan (kindIn (now (kinds .entry))) (now (s .entry)) at lazy slots ⌝ }
 {
     let k = place_refusal(s, at);
     if k != 0 {
@@ -175,10 +177,10 @@ pub fn row_plan(s: &[u8], at: usize, lazy: bool, slots: usize) -> RowPlan
         return row_refused(5);
     }
     let p = point_at(s, at);
-    if is_blank(s, p) {
+    if is_blank(s, kinds, p) {
         return row_refused(8);
     }
-    row_found(p, row(s, p), slots)
+    row_found(p, row(s, kinds, p), slots)
 }
 
 // Whether the second line of a head is lazy or pierced.

@@ -10,7 +10,7 @@ use tokenizer::partial_space_or_tab::space_ends;
 ghost use mathlib.Core.Path.{_≡_};
 ghost use Prim.Native.Nat.{_≤_};
 ghost use lib.ListN.{length, drop};
-ghost use Rattle.tokenizer.specs.Bytes.{kindOf};
+ghost use Rattle.tokenizer.specs.Bytes.{kindIn, Passes};
 ghost use Rattle.tokenizer.specs.Points.{past};
 ghost use Rattle.tokenizer.specs.Lines.{isEmpty, lineBody};
 ghost use Rattle.tokenizer.specs.Moves.{restOf, Inside};
@@ -31,10 +31,11 @@ pub enum Values {
 }
 
 // Whether a stretch ends here: at a divider, a line end or the sheet's end.
-pub fn stretch_ends(s: &[u8], p: Point) -> bool
-    ensures { λ r. ⌜ r ≡ isEmpty (stretch kindOf (restOf (now (s .entry)) p)) ⌝ }
+pub fn stretch_ends(s: &[u8], kinds: &[u8], p: Point) -> bool
+    requires { ⌜ Passes (now kinds) ⌝ }
+    ensures { λ r. ⌜ r ≡ isEmpty (stretch (kindIn (now (kinds .entry))) (restOf (now (s .entry)) p)) ⌝ }
 {
-    match ahead(s, p) {
+    match ahead(s, kinds, p) {
         2 => true,
         3 => true,
         _ => false,
@@ -42,12 +43,12 @@ pub fn stretch_ends(s: &[u8], p: Point) -> bool
 }
 
 // After a value: whitespace, and the end of the stretch.
-pub fn head_delimiter_cell_after(s: &[u8], p: Point) -> Cell
-    requires { ⌜ Inside (now s) p ⌝ }
-    ensures { λ r. ⌜ r ≡ blankAt p (restOf (now (s .entry)) p) ⌝ }
+pub fn head_delimiter_cell_after(s: &[u8], kinds: &[u8], p: Point) -> Cell
+    requires { ⌜ Inside (now s) p × Passes (now kinds) ⌝ }
+    ensures { λ r. ⌜ r ≡ blankAt (kindIn (now (kinds .entry))) p (restOf (now (s .entry)) p) ⌝ }
 {
-    let e = space_end(s, p);
-    if stretch_ends(s, e) {
+    let e = space_end(s, kinds, p);
+    if stretch_ends(s, kinds, e) {
         Cell::Value(e)
     } else {
         Cell::Bad
@@ -55,63 +56,63 @@ pub fn head_delimiter_cell_after(s: &[u8], p: Point) -> Cell
 }
 
 // After a value's hyphens: an optional colon.
-pub fn head_delimiter_filler(s: &[u8], p: Point) -> Cell
-    requires { ⌜ Inside (now s) p ⌝ }
-    ensures { λ r. ⌜ r ≡ closedAt p (restOf (now (s .entry)) p) ⌝ }
+pub fn head_delimiter_filler(s: &[u8], kinds: &[u8], p: Point) -> Cell
+    requires { ⌜ Inside (now s) p × Passes (now kinds) ⌝ }
+    ensures { λ r. ⌜ r ≡ closedAt (kindIn (now (kinds .entry))) p (restOf (now (s .entry)) p) ⌝ }
 {
-    match ahead(s, p) {
-        6 => head_delimiter_cell_after(s, over(s, p)),
-        _ => head_delimiter_cell_after(s, p),
+    match ahead(s, kinds, p) {
+        6 => head_delimiter_cell_after(s, kinds, over(s, p)),
+        _ => head_delimiter_cell_after(s, kinds, p),
     }
 }
 
 // At a value's hyphens, after an optional colon.
-pub fn head_delimiter_left_alignment_after(s: &[u8], p: Point) -> Cell
-    requires { ⌜ Inside (now s) p ⌝ }
-    ensures { λ r. ⌜ r ≡ hyphensAt p (restOf (now (s .entry)) p) ⌝ }
+pub fn head_delimiter_left_alignment_after(s: &[u8], kinds: &[u8], p: Point) -> Cell
+    requires { ⌜ Inside (now s) p × Passes (now kinds) ⌝ }
+    ensures { λ r. ⌜ r ≡ hyphensAt (kindIn (now (kinds .entry))) p (restOf (now (s .entry)) p) ⌝ }
 {
-    match ahead(s, p) {
-        5 => head_delimiter_filler(s, run_end(s, p, 5)),
+    match ahead(s, kinds, p) {
+        5 => head_delimiter_filler(s, kinds, run_end(s, kinds, p, 5)),
         _ => Cell::Bad,
     }
 }
 
 // One stretch of a delimiter row.
-pub fn head_delimiter_value_before(s: &[u8], p: Point) -> Cell
-    requires { ⌜ Inside (now s) p ⌝ }
-    ensures { λ r. ⌜ r ≡ cellAt p (restOf (now (s .entry)) p) ⌝ }
+pub fn head_delimiter_value_before(s: &[u8], kinds: &[u8], p: Point) -> Cell
+    requires { ⌜ Inside (now s) p × Passes (now kinds) ⌝ }
+    ensures { λ r. ⌜ r ≡ cellAt (kindIn (now (kinds .entry))) p (restOf (now (s .entry)) p) ⌝ }
 {
-    let q = space_end(s, p);
-    if stretch_ends(s, q) {
+    let q = space_end(s, kinds, p);
+    if stretch_ends(s, kinds, q) {
         return Cell::Empty(q);
     }
-    match ahead(s, q) {
-        6 => head_delimiter_left_alignment_after(s, over(s, q)),
-        _ => head_delimiter_left_alignment_after(s, q),
+    match ahead(s, kinds, q) {
+        6 => head_delimiter_left_alignment_after(s, kinds, over(s, q)),
+        _ => head_delimiter_left_alignment_after(s, kinds, q),
     }
 }
 
 // The stretches that are left, after n values.
-pub fn head_delimiter_cells(s: &[u8], p: Point, n: u32) -> Values
-    requires { ⌜ Inside (now s) p × (n ≤ p .index) ⌝ }
-    ensures { λ r. ⌜ r ≡ restAt n p (restOf (now (s .entry)) p) ⌝ }
+pub fn head_delimiter_cells(s: &[u8], kinds: &[u8], p: Point, n: u32) -> Values
+    requires { ⌜ Inside (now s) p × (n ≤ p .index) × Passes (now kinds) ⌝ }
+    ensures { λ r. ⌜ r ≡ restAt (kindIn (now (kinds .entry))) n p (restOf (now (s .entry)) p) ⌝ }
 {
     let mut q = p;
     let mut m = n;
     loop {
-        match head_delimiter_value_before(s, q) {
+        match head_delimiter_value_before(s, kinds, q) {
             Cell::Bad => {
                 return Values::Bad;
             }
             Cell::Empty(e) => {
-                if ahead(s, e) == 3 {
+                if ahead(s, kinds, e) == 3 {
                     return Values::Bad;
                 }
                 return Values::Count(m, e);
             }
             Cell::Value(e) => {
                 m += 1;
-                if ahead(s, e) == 3 {
+                if ahead(s, kinds, e) == 3 {
                     q = over(s, e);
                 } else {
                     return Values::Count(m, e);
@@ -122,24 +123,24 @@ pub fn head_delimiter_cells(s: &[u8], p: Point, n: u32) -> Values
 }
 
 // All stretches. A leading divider has nothing before it.
-pub fn head_delimiter_before(s: &[u8], p: Point) -> Values
-    requires { ⌜ Inside (now s) p ⌝ }
-    ensures { λ r. ⌜ r ≡ valuesAt p (restOf (now (s .entry)) p) ⌝ }
+pub fn head_delimiter_before(s: &[u8], kinds: &[u8], p: Point) -> Values
+    requires { ⌜ Inside (now s) p × Passes (now kinds) ⌝ }
+    ensures { λ r. ⌜ r ≡ valuesAt (kindIn (now (kinds .entry))) p (restOf (now (s .entry)) p) ⌝ }
 {
-    let q = space_end(s, p);
-    if ahead(s, q) == 3 {
-        return head_delimiter_cells(s, over(s, q), 0);
+    let q = space_end(s, kinds, p);
+    if ahead(s, kinds, q) == 3 {
+        return head_delimiter_cells(s, kinds, over(s, q), 0);
     }
-    head_delimiter_cells(s, p, 0)
+    head_delimiter_cells(s, kinds, p, 0)
 }
 
 // Whether the indent of the line at a place is permitted. Most lines have none.
-pub fn permits_at(s: &[u8], at: usize, on: bool) -> bool
-    requires { ⌜ (length (now s) ≤ 65536) × (at ≤ length (now s)) ⌝ }
-    ensures { λ r. ⌜ r ≡ permitted kindOf on (lineBody (drop at (now (s .entry)))) ⌝ }
+pub fn permits_at(s: &[u8], kinds: &[u8], at: usize, on: bool) -> bool
+    requires { ⌜ (length (now s) ≤ 65536) × (at ≤ length (now s)) × Passes (now kinds) ⌝ }
+    ensures { λ r. ⌜ r ≡ permitted (kindIn (now (kinds .entry))) on (lineBody (drop at (now (s .entry)))) ⌝ }
 {
     if on {
-        if kind_at(s, at) == 1 {
+        if kind_at(s, kinds, at) == 1 {
             let p = Point {
                 line: 1,
                 column: 1,
@@ -153,21 +154,21 @@ pub fn permits_at(s: &[u8], at: usize, on: bool) -> bool
 }
 
 // The same at a point.
-pub fn permits(s: &[u8], p: Point, on: bool) -> bool
-    requires { ⌜ Inside (now s) p × (p .column ≡ 1) ⌝ }
-    ensures { λ r. ⌜ r ≡ permitted kindOf on (restOf (now (s .entry)) p) ⌝ }
+pub fn permits(s: &[u8], kinds: &[u8], p: Point, on: bool) -> bool
+    requires { ⌜ Inside (now s) p × (p .column ≡ 1) × Passes (now kinds) ⌝ }
+    ensures { λ r. ⌜ r ≡ permitted (kindIn (now (kinds .entry))) on (restOf (now (s .entry)) p) ⌝ }
 {
-    permits_at(s, p.index as usize, on)
+    permits_at(s, kinds, p.index as usize, on)
 }
 
 // The delimiter row: the number of its values and its end, or refused.
-pub fn head_delimiter_row(s: &[u8], p: Point, on: bool) -> Values
-    requires { ⌜ Inside (now s) p × (p .column ≡ 1) ⌝ }
-    ensures { λ r. ⌜ r ≡ delimiterAt on p (restOf (now (s .entry)) p) ⌝ }
+pub fn head_delimiter_row(s: &[u8], kinds: &[u8], p: Point, on: bool) -> Values
+    requires { ⌜ Inside (now s) p × (p .column ≡ 1) × Passes (now kinds) ⌝ }
+    ensures { λ r. ⌜ r ≡ delimiterAt (kindIn (now (kinds .entry))) on p (restOf (now (s .entry)) p) ⌝ }
 {
-    if permits(s, p, on) {
-        if marked_from(s, p.index as usize) {
-            match head_delimiter_before(s, p) {
+    if permits(s, kinds, p, on) {
+        if marked_from(s, kinds, p.index as usize) {
+            match head_delimiter_before(s, kinds, p) {
                 Values::Count(n, e) => {
                     if 0 < n {
                         return Values::Count(n, e);
@@ -184,24 +185,24 @@ pub fn head_delimiter_row(s: &[u8], p: Point, on: bool) -> Values
 }
 
 // The same. A line whose first byte is no whitespace, divider, hyphen or colon is refused at once: most are such.
-pub fn head_delimiter_start(s: &[u8], p: Point, on: bool) -> Values
-    requires { ⌜ Inside (now s) p × (p .column ≡ 1) ⌝ }
-    ensures { λ r. ⌜ r ≡ delimiterAt on p (restOf (now (s .entry)) p) ⌝ }
+pub fn head_delimiter_start(s: &[u8], kinds: &[u8], p: Point, on: bool) -> Values
+    requires { ⌜ Inside (now s) p × (p .column ≡ 1) × Passes (now kinds) ⌝ }
+    ensures { λ r. ⌜ r ≡ delimiterAt (kindIn (now (kinds .entry))) on p (restOf (now (s .entry)) p) ⌝ }
 {
-    match ahead(s, p) {
-        1 | 3 | 5 | 6 => head_delimiter_row(s, p, on),
+    match ahead(s, kinds, p) {
+        1 | 3 | 5 | 6 => head_delimiter_row(s, kinds, p, on),
         _ => Values::Bad,
     }
 }
 
 // The end of a run of bytes that a delimiter row names fillers.
-pub fn filler_end(s: &[u8], p: Point) -> Point
-    requires { ⌜ Inside (now s) p ⌝ }
-    ensures { λ r. ⌜ r ≡ past p (fillerRun kindOf (restOf (now (s .entry)) p)) ⌝ }
+pub fn filler_end(s: &[u8], kinds: &[u8], p: Point) -> Point
+    requires { ⌜ Inside (now s) p × Passes (now kinds) ⌝ }
+    ensures { λ r. ⌜ r ≡ past p (fillerRun (kindIn (now (kinds .entry))) (restOf (now (s .entry)) p)) ⌝ }
 {
     let mut q = p;
     loop {
-        match ahead(s, q) {
+        match ahead(s, kinds, q) {
             1 | 2 | 3 | 6 => {
                 return q;
             }

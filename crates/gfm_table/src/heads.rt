@@ -6,6 +6,7 @@ use crate::states::row;
 use tokenizer::event::Point;
 use tokenizer::lines::end_at;
 ghost use mathlib.Core.Path.{_≡_};
+ghost use Rattle.tokenizer.specs.Bytes.{kindIn, Passes};
 ghost use Rattle.tokenizer.specs.Moves.{Inside};
 ghost use Rattle.gfm_table.specs.Answers.{headAt};
 
@@ -24,12 +25,12 @@ pub enum Answer {
 }
 
 // Questions 3 to 7 of a head line and the line after it.
-pub fn head_at(s: &[u8], p: Point, on: bool, stray: bool) -> Answer
-    requires { ⌜ Inside (now s) p × (p .column ≡ 1) ⌝ }
-    ensures { λ r. ⌜ r ≡ headAt (now (s .entry)) p on stray ⌝ }
+pub fn head_at(s: &[u8], kinds: &[u8], p: Point, on: bool, stray: bool) -> Answer
+    requires { ⌜ Inside (now s) p × (p .column ≡ 1) × Passes (now kinds) ⌝ }
+    ensures { λ r. ⌜ r ≡ headAt (kindIn (now (kinds .entry))) (now (s .entry)) p on stray ⌝ }
 {
-    if permits(s, p, on) {
-        let r = row(s, p);
+    if permits(s, kinds, p, on) {
+        let r = row(s, kinds, p);
         let at = r.at;
         let n = end_at(s, at);
         if n == 0 {
@@ -42,7 +43,7 @@ pub fn head_at(s: &[u8], p: Point, on: bool, stray: bool) -> Answer
             return Answer::Refused(5);
         }
         let d = at.next_line(n);
-        match head_delimiter_start(s, d, on) {
+        match head_delimiter_start(s, kinds, d, on) {
             Values::Bad => {
                 return Answer::Refused(6);
             }

@@ -6,9 +6,11 @@ use calls::head_plan;
 use calls::row_plan;
 use stream::fill;
 use tokenizer::event::Event;
+use tokenizer::kinds::builtin;
 ghost use mathlib.Core.Path.{_≡_};
 ghost use mathlib.Core.Bool.{_||_};
 ghost use lib.ListN.{length};
+ghost use Rattle.tokenizer.specs.Bytes.{kindOf};
 ghost use Rattle.gfm_table.specs.Calls.{headOf, headSlots, rowOf, rowSlots};
 
 pub mod calls;
@@ -29,26 +31,29 @@ pub fn head(
     pierced: bool,
     raw: &mut [Event],
 ) -> Head
-    ensures { λ r. ⌜ (r ≡ headOf (now (sheet .entry)) offset «code_indented» (lazy || pierced) (length (now (raw .entry)))) × (now (raw .exit) ≡ headSlots (now (sheet .entry)) offset «code_indented» (lazy || pierced) (length (now (raw .entry)))) ⌝ }
+    ensures { λ r. ⌜ (r ≡ headOf kindOf (now (sheet .entry)) offset «code_indented» (lazy || pierced) (length (now (raw .entry)))) × (now (raw .exit) ≡ headSlots kindOf (now (sheet .entry)) offset «code_indented» (lazy || pierced) (length (now (raw .entry)))) ⌝ }
 {
+    let kinds = builtin();
     let plan = head_plan(
         sheet,
+        &kinds,
         offset,
         code_indented,
         either(lazy, pierced),
         raw.len(),
     );
     let cursor = plan.cursor;
-    fill(sheet, cursor, raw);
+    fill(sheet, &kinds, cursor, raw);
     plan.answer
 }
 
 // A body row at an offset: one line of the sheet.
 pub fn row(sheet: &[u8], offset: usize, lazy: bool, raw: &mut [Event]) -> Row
-    ensures { λ r. ⌜ (r ≡ rowOf (now (sheet .entry)) offset lazy (length (now (raw .entry)))) × (now (raw .exit) ≡ rowSlots (now (sheet .entry)) offset lazy (length (now (raw .entry)))) ⌝ }
+    ensures { λ r. ⌜ (r ≡ rowOf kindOf (now (sheet .entry)) offset lazy (length (now (raw .entry)))) × (now (raw .exit) ≡ rowSlots kindOf (now (sheet .entry)) offset lazy (length (now (raw .entry)))) ⌝ }
 {
-    let plan = row_plan(sheet, offset, lazy, raw.len());
+    let kinds = builtin();
+    let plan = row_plan(sheet, &kinds, offset, lazy, raw.len());
     let cursor = plan.cursor;
-    fill(sheet, cursor, raw);
+    fill(sheet, &kinds, cursor, raw);
     plan.answer
 }

@@ -5,35 +5,37 @@ ghost use mathlib.Core.Path.{_≡_};
 ghost use mathlib.Core.Bool.{false, cond};
 ghost use Prim.Native.Nat.{_≤_, _+_};
 ghost use lib.ListN.{length, drop};
-ghost use Rattle.tokenizer.specs.Bytes.{kindOf};
+ghost use Rattle.tokenizer.specs.Bytes.{kindIn, Passes};
 ghost use Rattle.tokenizer.specs.Lines.{lineBody, indent};
 ghost use Rattle.gfm_table.specs.Rows.{delimiterPieces};
 ghost use Rattle.gfm_table.specs.Machine.{dataRun, HeadRead};
 ghost use Rattle.gfm_table.specs.Delimiters.{fillerRun};
 
 // The end of a run of spaces and tabs.
-pub fn spaces_end(s: &[u8], at: usize) -> usize
-    ensures { λ r. ⌜ r ≡ at + length (indent kindOf (lineBody (drop at (now (s .entry))))) ⌝ }
+pub fn spaces_end(s: &[u8], kinds: &[u8], at: usize) -> usize
+    requires { ⌜ Passes (now kinds) ⌝ }
+    ensures { λ r. ⌜ r ≡ at + length (indent (kindIn (now (kinds .entry))) (lineBody (drop at (now (s .entry))))) ⌝ }
 {
     let mut i = at;
-    while kind_at(s, i) == 1 {
+    while kind_at(s, kinds, i) == 1 {
         i += 1;
     }
     i
 }
 
 // The end of a run of data.
-pub fn text_end(s: &[u8], at: usize) -> usize
-    ensures { λ r. ⌜ r ≡ at + length (dataRun kindOf false (lineBody (drop at (now (s .entry))))) ⌝ }
+pub fn text_end(s: &[u8], kinds: &[u8], at: usize) -> usize
+    requires { ⌜ Passes (now kinds) ⌝ }
+    ensures { λ r. ⌜ r ≡ at + length (dataRun (kindIn (now (kinds .entry))) false (lineBody (drop at (now (s .entry))))) ⌝ }
 {
     let mut i = at;
     loop {
-        match kind_at(s, i) {
+        match kind_at(s, kinds, i) {
             1 | 2 | 3 => {
                 return i;
             }
             4 => {
-                i = row_escape(s, i + 1);
+                i = row_escape(s, kinds, i + 1);
             }
             _ => {
                 i += 1;
@@ -56,18 +58,18 @@ fn one_if(b: bool) -> u32
 }
 
 // The head line from a place to its end. A cell begins with a solid piece that follows a divider.
-pub fn head_row(s: &[u8], at: usize) -> HeadRow
-    requires { ⌜ (length (now s) ≤ 65536) × (at ≤ length (now s)) ⌝ }
-    ensures { λ r. ⌜ HeadRead (lineBody (drop at (now (s .entry)))) r ⌝ }
+pub fn head_row(s: &[u8], kinds: &[u8], at: usize) -> HeadRow
+    requires { ⌜ (length (now s) ≤ 65536) × (at ≤ length (now s)) × Passes (now kinds) ⌝ }
+    ensures { λ r. ⌜ HeadRead (kindIn (now (kinds .entry))) (lineBody (drop at (now (s .entry)))) r ⌝ }
 {
     let mut i = at;
     let mut size: u32 = 0;
-    let mut seen = kind_at(s, spaces_end(s, at)) != 3;
+    let mut seen = kind_at(s, kinds, spaces_end(s, kinds, at)) != 3;
     let mut size_b: u32 = one_if(seen);
     loop {
-        match kind_at(s, i) {
+        match kind_at(s, kinds, i) {
             1 => {
-                i = spaces_end(s, i + 1);
+                i = spaces_end(s, kinds, i + 1);
             }
             2 => {
                 return HeadRow { size, size_b };
@@ -79,7 +81,7 @@ pub fn head_row(s: &[u8], at: usize) -> HeadRow
                 seen = true;
             }
             _ => {
-                i = text_end(s, i);
+                i = text_end(s, kinds, i);
                 size += one_if(seen);
                 size_b += 1;
                 seen = false;
@@ -89,12 +91,13 @@ pub fn head_row(s: &[u8], at: usize) -> HeadRow
 }
 
 // The end of a run of bytes that a delimiter row names fillers.
-pub fn fillers_end(s: &[u8], at: usize) -> usize
-    ensures { λ r. ⌜ r ≡ at + length (fillerRun kindOf (lineBody (drop at (now (s .entry))))) ⌝ }
+pub fn fillers_end(s: &[u8], kinds: &[u8], at: usize) -> usize
+    requires { ⌜ Passes (now kinds) ⌝ }
+    ensures { λ r. ⌜ r ≡ at + length (fillerRun (kindIn (now (kinds .entry))) (lineBody (drop at (now (s .entry))))) ⌝ }
 {
     let mut i = at;
     loop {
-        match kind_at(s, i) {
+        match kind_at(s, kinds, i) {
             1 | 2 | 3 | 6 => {
                 return i;
             }
@@ -106,16 +109,16 @@ pub fn fillers_end(s: &[u8], at: usize) -> usize
 }
 
 // How many pieces a delimiter row has, from a place to the end of its line.
-pub fn marks_from(s: &[u8], at: usize) -> u32
-    requires { ⌜ (length (now s) ≤ 65536) × (at ≤ length (now s)) ⌝ }
-    ensures { λ r. ⌜ r ≡ length (delimiterPieces kindOf (lineBody (drop at (now (s .entry))))) ⌝ }
+pub fn marks_from(s: &[u8], kinds: &[u8], at: usize) -> u32
+    requires { ⌜ (length (now s) ≤ 65536) × (at ≤ length (now s)) × Passes (now kinds) ⌝ }
+    ensures { λ r. ⌜ r ≡ length (delimiterPieces (kindIn (now (kinds .entry))) (lineBody (drop at (now (s .entry))))) ⌝ }
 {
     let mut i = at;
     let mut n: u32 = 0;
     loop {
-        match kind_at(s, i) {
+        match kind_at(s, kinds, i) {
             1 => {
-                i = spaces_end(s, i + 1);
+                i = spaces_end(s, kinds, i + 1);
                 n += 1;
             }
             2 => {
@@ -126,7 +129,7 @@ pub fn marks_from(s: &[u8], at: usize) -> u32
                 n += 1;
             }
             _ => {
-                i = fillers_end(s, i);
+                i = fillers_end(s, kinds, i);
                 n += 1;
             }
         }

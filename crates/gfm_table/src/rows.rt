@@ -10,7 +10,7 @@ use tokenizer::slots::put;
 ghost use mathlib.Core.Path.{_≡_};
 ghost use Prim.Native.Nat.{_≤_, _<_, _+_, _*_};
 ghost use lib.ListN.{length, drop};
-ghost use Rattle.tokenizer.specs.Bytes.{kindOf};
+ghost use Rattle.tokenizer.specs.Bytes.{kindIn, Passes};
 ghost use Rattle.tokenizer.specs.Points.{columnAfter};
 ghost use Rattle.tokenizer.specs.Events.{SpaceOrTab, enter, leave};
 ghost use Rattle.tokenizer.specs.Lines.{lineBody, indent};
@@ -38,13 +38,13 @@ pub fn column_after(c: u32, b: u8) -> u32
 }
 
 // A run of spaces and tabs.
-pub fn spaces_at(s: &[u8], at: u32, column: u32) -> Placed
-    requires { ⌜ (length (now s) ≤ 65536) × (at ≤ length (now s)) × (column ≤ 4 * at + 1) ⌝ }
-    ensures { λ r. ⌜ r ≡ placed SpaceOrTab at column (indent kindOf (lineBody (drop at (now (s .entry))))) ⌝ }
+pub fn spaces_at(s: &[u8], kinds: &[u8], at: u32, column: u32) -> Placed
+    requires { ⌜ (length (now s) ≤ 65536) × (at ≤ length (now s)) × (column ≤ 4 * at + 1) × Passes (now kinds) ⌝ }
+    ensures { λ r. ⌜ r ≡ placed SpaceOrTab at column (indent (kindIn (now (kinds .entry))) (lineBody (drop at (now (s .entry))))) ⌝ }
 {
     let mut i = at;
     let mut c = column;
-    while kind_at(s, i as usize) == 1 {
+    while kind_at(s, kinds, i as usize) == 1 {
         c = column_after(c, s[i as usize]);
         i += 1;
     }
@@ -69,31 +69,31 @@ pub fn flat_piece(name: u8, at: u32, end: usize, column: u32) -> Placed
 }
 
 // The next piece of a head line or a body row.
-pub fn text_at(s: &[u8], at: u32, column: u32) -> Placed
-    requires { ⌜ (length (now s) ≤ 65536) × (at ≤ length (now s)) × (column ≤ 4 * at + 1) ⌝ }
-    ensures { λ r. ⌜ r ≡ nextAt at column (piecesOf Body (lineBody (drop at (now (s .entry))))) ⌝ }
+pub fn text_at(s: &[u8], kinds: &[u8], at: u32, column: u32) -> Placed
+    requires { ⌜ (length (now s) ≤ 65536) × (at ≤ length (now s)) × (column ≤ 4 * at + 1) × Passes (now kinds) ⌝ }
+    ensures { λ r. ⌜ r ≡ nextAt at column (piecesOf (kindIn (now (kinds .entry))) Body (lineBody (drop at (now (s .entry))))) ⌝ }
 {
     let i = at as usize;
-    match kind_at(s, i) {
-        1 => spaces_at(s, at, column),
+    match kind_at(s, kinds, i) {
+        1 => spaces_at(s, kinds, at, column),
         2 => Placed {
             name: 0,
             end: at,
             column,
         },
         3 => flat_piece(Name::GfmTableCellDivider, at, i + 1, column),
-        _ => flat_piece(Name::Data, at, text_end(s, i), column),
+        _ => flat_piece(Name::Data, at, text_end(s, kinds, i), column),
     }
 }
 
 // The next piece of a delimiter row.
-pub fn marks_at(s: &[u8], at: u32, column: u32) -> Placed
-    requires { ⌜ (length (now s) ≤ 65536) × (at ≤ length (now s)) × (column ≤ 4 * at + 1) ⌝ }
-    ensures { λ r. ⌜ r ≡ nextAt at column (piecesOf Delimiter (lineBody (drop at (now (s .entry))))) ⌝ }
+pub fn marks_at(s: &[u8], kinds: &[u8], at: u32, column: u32) -> Placed
+    requires { ⌜ (length (now s) ≤ 65536) × (at ≤ length (now s)) × (column ≤ 4 * at + 1) × Passes (now kinds) ⌝ }
+    ensures { λ r. ⌜ r ≡ nextAt at column (piecesOf (kindIn (now (kinds .entry))) Delimiter (lineBody (drop at (now (s .entry))))) ⌝ }
 {
     let i = at as usize;
-    match kind_at(s, i) {
-        1 => spaces_at(s, at, column),
+    match kind_at(s, kinds, i) {
+        1 => spaces_at(s, kinds, at, column),
         2 => Placed {
             name: 0,
             end: at,
@@ -101,7 +101,12 @@ pub fn marks_at(s: &[u8], at: u32, column: u32) -> Placed
         },
         3 => flat_piece(Name::GfmTableCellDivider, at, i + 1, column),
         6 => flat_piece(Name::GfmTableDelimiterMarker, at, i + 1, column),
-        _ => flat_piece(Name::GfmTableDelimiterFiller, at, fillers_end(s, i), column),
+        _ => flat_piece(
+            Name::GfmTableDelimiterFiller,
+            at,
+            fillers_end(s, kinds, i),
+            column,
+        ),
     }
 }
 
@@ -113,11 +118,11 @@ pub struct Reached {
 }
 
 // Where the bytes of a row end.
-pub fn row_stop(s: &[u8], at: u32) -> u32
-    requires { ⌜ (length (now s) ≤ 65536) × (at ≤ length (now s)) ⌝ }
+pub fn row_stop(s: &[u8], kinds: &[u8], at: u32) -> u32
+    requires { ⌜ (length (now s) ≤ 65536) × (at ≤ length (now s)) × Passes (now kinds) ⌝ }
     ensures { λ r. ⌜ r ≡ at + length (lineBody (drop at (now (s .entry)))) ⌝ }
 {
-    line_stop(s, at as usize) as u32
+    line_stop(s, kinds, at as usize) as u32
 }
 
 // Before the first piece.
@@ -182,14 +187,21 @@ pub fn row_after(x: Reached, p: Placed) -> Reached
 }
 
 // The events of the pieces of a head line or a body row, from its first byte, into the slots from a place on.
-pub fn write_text(s: &[u8], line: u32, from: u32, slots: &mut [Event], to: usize) -> Reached
-    requires { ⌜ Inside (now s) (pointIn line from 1) × (to ≤ 4294967296) ⌝ }
-    ensures { λ r. ⌜ (r ≡ rowEnd (now (s .entry)) Body (pointIn line from 1) to) × (now (slots .exit) ≡ rowWrote (now (s .entry)) Body (pointIn line from 1) to (now (slots .entry))) ⌝ }
+pub fn write_text(
+    s: &[u8],
+    kinds: &[u8],
+    line: u32,
+    from: u32,
+    slots: &mut [Event],
+    to: usize,
+) -> Reached
+    requires { ⌜ Inside (now s) (pointIn line from 1) × (to ≤ 4294967296) × Passes (now kinds) ⌝ }
+    ensures { λ r. ⌜ (r ≡ rowEnd (kindIn (now (kinds .entry))) (now (s .entry)) Body (pointIn line from 1) to) × (now (slots .exit) ≡ rowWrote (kindIn (now (kinds .entry))) (now (s .entry)) Body (pointIn line from 1) to (now (slots .entry))) ⌝ }
 {
-    let end = row_stop(s, from);
+    let end = row_stop(s, kinds, from);
     let mut x = row_start(from, to);
     while x.at < end {
-        let p = text_at(s, x.at, x.column);
+        let p = text_at(s, kinds, x.at, x.column);
         put(slots, x.slot, entry_of(line, x, p));
         put(slots, exit_slot(x), exit_of(line, p));
         x = row_after(x, p);
@@ -198,14 +210,21 @@ pub fn write_text(s: &[u8], line: u32, from: u32, slots: &mut [Event], to: usize
 }
 
 // The same of a delimiter row.
-pub fn write_marks(s: &[u8], line: u32, from: u32, slots: &mut [Event], to: usize) -> Reached
-    requires { ⌜ Inside (now s) (pointIn line from 1) × (to ≤ 4294967296) ⌝ }
-    ensures { λ r. ⌜ (r ≡ rowEnd (now (s .entry)) Delimiter (pointIn line from 1) to) × (now (slots .exit) ≡ rowWrote (now (s .entry)) Delimiter (pointIn line from 1) to (now (slots .entry))) ⌝ }
+pub fn write_marks(
+    s: &[u8],
+    kinds: &[u8],
+    line: u32,
+    from: u32,
+    slots: &mut [Event],
+    to: usize,
+) -> Reached
+    requires { ⌜ Inside (now s) (pointIn line from 1) × (to ≤ 4294967296) × Passes (now kinds) ⌝ }
+    ensures { λ r. ⌜ (r ≡ rowEnd (kindIn (now (kinds .entry))) (now (s .entry)) Delimiter (pointIn line from 1) to) × (now (slots .exit) ≡ rowWrote (kindIn (now (kinds .entry))) (now (s .entry)) Delimiter (pointIn line from 1) to (now (slots .entry))) ⌝ }
 {
-    let end = row_stop(s, from);
+    let end = row_stop(s, kinds, from);
     let mut x = row_start(from, to);
     while x.at < end {
-        let p = marks_at(s, x.at, x.column);
+        let p = marks_at(s, kinds, x.at, x.column);
         put(slots, x.slot, entry_of(line, x, p));
         put(slots, exit_slot(x), exit_of(line, p));
         x = row_after(x, p);

@@ -10,11 +10,11 @@ ghost use mathlib.Core.Path.{_≡_};
 ghost use mathlib.Core.Bool.{false};
 ghost use Prim.Native.Nat.{_<_, _+_};
 ghost use lib.ListN.{length, drop};
-ghost use Rattle.tokenizer.specs.Bytes.{kindOf};
+ghost use Rattle.tokenizer.specs.Bytes.{kindIn, Passes};
 ghost use Rattle.tokenizer.specs.Points.{past};
 ghost use Rattle.tokenizer.specs.Lines.{lineBody};
 ghost use Rattle.tokenizer.specs.Moves.{restOf, Inside};
-ghost use Rattle.gfm_table.specs.Machine.{Counted, AtData, dataRun, escaped, countedAs, passedTo, stepped, dataPiece, Passes, whole, startAt, RowRead};
+ghost use Rattle.gfm_table.specs.Machine.{Counted, AtData, dataRun, escaped, countedAs, passedTo, stepped, dataPiece, ReadHere, whole, startAt, RowRead};
 
 // Where a row is read: the point reached, the last piece, how many pieces, and the head's counters.
 pub struct Scan {
@@ -34,22 +34,23 @@ pub enum Step {
 }
 
 // After a backslash: a backslash or a pipe is passed over.
-pub fn row_escape(s: &[u8], at: usize) -> usize
-    ensures { λ r. ⌜ r ≡ at + length (escaped kindOf (lineBody (drop at (now (s .entry))))) ⌝ }
+pub fn row_escape(s: &[u8], kinds: &[u8], at: usize) -> usize
+    requires { ⌜ Passes (now kinds) ⌝ }
+    ensures { λ r. ⌜ r ≡ at + length (escaped (kindIn (now (kinds .entry))) (lineBody (drop at (now (s .entry))))) ⌝ }
 {
-    match kind_at(s, at) {
+    match kind_at(s, kinds, at) {
         3 | 4 => at + 1,
         _ => at,
     }
 }
 
 // The end of a run of data. No tab lies in it, so a byte is a column.
-pub fn data_end(s: &[u8], p: Point) -> Point
-    requires { ⌜ Inside (now s) p ⌝ }
-    ensures { λ r. ⌜ r ≡ past p (dataRun kindOf false (restOf (now (s .entry)) p)) ⌝ }
+pub fn data_end(s: &[u8], kinds: &[u8], p: Point) -> Point
+    requires { ⌜ Inside (now s) p × Passes (now kinds) ⌝ }
+    ensures { λ r. ⌜ r ≡ past p (dataRun (kindIn (now (kinds .entry))) false (restOf (now (s .entry)) p)) ⌝ }
 {
     let i = p.index as usize;
-    let e = text_end(s, i) as u32;
+    let e = text_end(s, kinds, i) as u32;
     let n = e - p.index;
     let column = p.column + n;
     Point {
@@ -99,50 +100,51 @@ impl Scan {
 }
 
 // Between two pieces: as many more as the budget says, or all that are left.
-pub fn row_break(s: &[u8], st: Scan, budget: usize) -> Step
-    requires { ⌜ Counted (now s) st ⌝ }
-    ensures { λ r. ⌜ Passes (now (s .entry)) st budget r ⌝ }
+pub fn row_break(s: &[u8], kinds: &[u8], st: Scan, budget: usize) -> Step
+    requires { ⌜ Counted (now s) st × Passes (now kinds) ⌝ }
+    ensures { λ r. ⌜ ReadHere (kindIn (now (kinds .entry))) (now (s .entry)) st budget r ⌝ }
 {
     if budget == 0 {
         return Step::Paused(st);
     }
     let at = st.at;
-    match ahead(s, at) {
+    match ahead(s, kinds, at) {
         1 => {
-            let to = space_end(s, at);
-            row_break(s, st.passed(Name::SpaceOrTab, to), budget - 1)
+            let to = space_end(s, kinds, at);
+            row_break(s, kinds, st.passed(Name::SpaceOrTab, to), budget - 1)
         }
         2 => Step::Ended(st),
         3 => {
             let to = over(s, at);
             row_break(
                 s,
+                kinds,
                 st.counted(true).passed(Name::GfmTableCellDivider, to),
                 budget - 1,
             )
         }
-        _ => row_data(s, st, budget - 1),
+        _ => row_data(s, kinds, st, budget - 1),
     }
 }
 
 // At the first byte of a piece of data.
-pub fn row_data(s: &[u8], st: Scan, budget: usize) -> Step
-    requires { ⌜ AtData (now s) st ⌝ }
-    ensures { λ r. ⌜ Passes (now (s .entry)) (stepped st (dataPiece (now (s .entry)) st)) budget r ⌝ }
+pub fn row_data(s: &[u8], kinds: &[u8], st: Scan, budget: usize) -> Step
+    requires { ⌜ AtData (kindIn (now kinds)) (now s) st × Passes (now kinds) ⌝ }
+    ensures { λ r. ⌜ ReadHere (kindIn (now (kinds .entry))) (now (s .entry)) (stepped st (dataPiece (kindIn (now (kinds .entry))) (now (s .entry)) st)) budget r ⌝ }
 {
     let at = st.at;
-    let to = data_end(s, at);
-    row_break(s, st.counted(false).passed(Name::Data, to), budget)
+    let to = data_end(s, kinds, at);
+    row_break(s, kinds, st.counted(false).passed(Name::Data, to), budget)
 }
 
 // The whole row: the states are resumed until the line ends.
-pub fn row_end(s: &[u8], st: Scan) -> Scan
-    requires { ⌜ Counted (now s) st ⌝ }
-    ensures { λ r. ⌜ r ≡ whole (now (s .entry)) st ⌝ }
+pub fn row_end(s: &[u8], kinds: &[u8], st: Scan) -> Scan
+    requires { ⌜ Counted (now s) st × Passes (now kinds) ⌝ }
+    ensures { λ r. ⌜ r ≡ whole (kindIn (now (kinds .entry))) (now (s .entry)) st ⌝ }
 {
     let mut q = st;
     loop {
-        match row_break(s, q, 64) {
+        match row_break(s, kinds, q, 64) {
             Step::Paused(t) => {
                 q = t;
             }
@@ -154,12 +156,12 @@ pub fn row_end(s: &[u8], st: Scan) -> Scan
 }
 
 // The state at the start of a row. The first solid byte counts double unless it is a divider.
-pub fn row_start(s: &[u8], p: Point) -> Scan
-    requires { ⌜ Inside (now s) p ⌝ }
-    ensures { λ r. ⌜ r ≡ startAt (now (s .entry)) p ⌝ }
+pub fn row_start(s: &[u8], kinds: &[u8], p: Point) -> Scan
+    requires { ⌜ Inside (now s) p × Passes (now kinds) ⌝ }
+    ensures { λ r. ⌜ r ≡ startAt (kindIn (now (kinds .entry))) (now (s .entry)) p ⌝ }
 {
-    let q = space_end(s, p);
-    match ahead(s, q) {
+    let q = space_end(s, kinds, p);
+    match ahead(s, kinds, q) {
         3 => Scan {
             at: p,
             from: p,
@@ -182,9 +184,9 @@ pub fn row_start(s: &[u8], p: Point) -> Scan
 }
 
 // A row from its start to the end of its line.
-pub fn row(s: &[u8], p: Point) -> Scan
-    requires { ⌜ Inside (now s) p ⌝ }
-    ensures { λ r. ⌜ RowRead (restOf (now (s .entry)) p) p r ⌝ }
+pub fn row(s: &[u8], kinds: &[u8], p: Point) -> Scan
+    requires { ⌜ Inside (now s) p × Passes (now kinds) ⌝ }
+    ensures { λ r. ⌜ RowRead (kindIn (now (kinds .entry))) (restOf (now (s .entry)) p) p r ⌝ }
 {
-    row_end(s, row_start(s, p))
+    row_end(s, kinds, row_start(s, kinds, p))
 }

@@ -10,6 +10,7 @@ use tokenizer::moves::over;
 use tokenizer::moves::space_end;
 ghost use mathlib.Core.Path.{_≡_};
 ghost use lib.ListN.{length};
+ghost use Rattle.tokenizer.specs.Bytes.{kindIn, Passes};
 ghost use Rattle.tokenizer.specs.Moves.{Inside};
 ghost use Rattle.gfm_table.specs.Stream.{nameOf, pieceAt, betweenOf, overAt, endedOf, stepOf, gave, Good};
 ghost use Rattle.gfm_table.specs.declared.stream.Part.the-variants.{Head, Delimiter, Body};
@@ -55,50 +56,50 @@ pub fn row_name(part: Part) -> u8
 }
 
 // The next piece of a head line or a body row.
-pub fn text_piece(s: &[u8], p: Point) -> Pieced
-    requires { ⌜ Inside (now s) p ⌝ }
-    ensures { λ r. ⌜ r ≡ pieceAt (now (s .entry)) Body p ⌝ }
+pub fn text_piece(s: &[u8], kinds: &[u8], p: Point) -> Pieced
+    requires { ⌜ Inside (now s) p × Passes (now kinds) ⌝ }
+    ensures { λ r. ⌜ r ≡ pieceAt (kindIn (now (kinds .entry))) (now (s .entry)) Body p ⌝ }
 {
-    match ahead(s, p) {
-        1 => Pieced::To(Name::SpaceOrTab, space_end(s, p)),
+    match ahead(s, kinds, p) {
+        1 => Pieced::To(Name::SpaceOrTab, space_end(s, kinds, p)),
         2 => Pieced::Nothing,
         3 => Pieced::To(Name::GfmTableCellDivider, over(s, p)),
-        _ => Pieced::To(Name::Data, data_end(s, p)),
+        _ => Pieced::To(Name::Data, data_end(s, kinds, p)),
     }
 }
 
 // The next piece of a delimiter row.
-pub fn mark_piece(s: &[u8], p: Point) -> Pieced
-    requires { ⌜ Inside (now s) p ⌝ }
-    ensures { λ r. ⌜ r ≡ pieceAt (now (s .entry)) Delimiter p ⌝ }
+pub fn mark_piece(s: &[u8], kinds: &[u8], p: Point) -> Pieced
+    requires { ⌜ Inside (now s) p × Passes (now kinds) ⌝ }
+    ensures { λ r. ⌜ r ≡ pieceAt (kindIn (now (kinds .entry))) (now (s .entry)) Delimiter p ⌝ }
 {
-    match ahead(s, p) {
-        1 => Pieced::To(Name::SpaceOrTab, space_end(s, p)),
+    match ahead(s, kinds, p) {
+        1 => Pieced::To(Name::SpaceOrTab, space_end(s, kinds, p)),
         2 => Pieced::Nothing,
         3 => Pieced::To(Name::GfmTableCellDivider, over(s, p)),
         6 => Pieced::To(Name::GfmTableDelimiterMarker, over(s, p)),
-        _ => Pieced::To(Name::GfmTableDelimiterFiller, filler_end(s, p)),
+        _ => Pieced::To(Name::GfmTableDelimiterFiller, filler_end(s, kinds, p)),
     }
 }
 
 // The next piece of any row.
-pub fn piece_at(s: &[u8], part: Part, p: Point) -> Pieced
-    requires { ⌜ Inside (now s) p ⌝ }
-    ensures { λ r. ⌜ r ≡ pieceAt (now (s .entry)) part p ⌝ }
+pub fn piece_at(s: &[u8], kinds: &[u8], part: Part, p: Point) -> Pieced
+    requires { ⌜ Inside (now s) p × Passes (now kinds) ⌝ }
+    ensures { λ r. ⌜ r ≡ pieceAt (kindIn (now (kinds .entry))) (now (s .entry)) part p ⌝ }
 {
     match part {
-        Part::Head => text_piece(s, p),
-        Part::Delimiter => mark_piece(s, p),
-        Part::Body => text_piece(s, p),
+        Part::Head => text_piece(s, kinds, p),
+        Part::Delimiter => mark_piece(s, kinds, p),
+        Part::Body => text_piece(s, kinds, p),
     }
 }
 
 // Between two pieces: the next is entered, or the row is left.
-pub fn step_between(s: &[u8], part: Part, p: Point) -> Stepped
-    requires { ⌜ Inside (now s) p ⌝ }
-    ensures { λ r. ⌜ r ≡ betweenOf part p (pieceAt (now (s .entry)) part p) ⌝ }
+pub fn step_between(s: &[u8], kinds: &[u8], part: Part, p: Point) -> Stepped
+    requires { ⌜ Inside (now s) p × Passes (now kinds) ⌝ }
+    ensures { λ r. ⌜ r ≡ betweenOf part p (pieceAt (kindIn (now (kinds .entry))) (now (s .entry)) part p) ⌝ }
 {
-    match piece_at(s, part, p) {
+    match piece_at(s, kinds, part, p) {
         Pieced::To(n, q) => Stepped {
             event: Event::enter(n, p),
             next: Cursor::Entered(part, n, q),
@@ -151,9 +152,9 @@ pub fn step_ended(s: &[u8], part: Part, p: Point) -> Stepped
 }
 
 // The next event, and the cursor after it. At the end blank events come for ever.
-pub fn step(s: &[u8], c: Cursor) -> Stepped
-    requires { ⌜ Good (now s) c ⌝ }
-    ensures { λ r. ⌜ r ≡ stepOf (now (s .entry)) c ⌝ }
+pub fn step(s: &[u8], kinds: &[u8], c: Cursor) -> Stepped
+    requires { ⌜ Good (now s) c × Passes (now kinds) ⌝ }
+    ensures { λ r. ⌜ r ≡ stepOf (kindIn (now (kinds .entry))) (now (s .entry)) c ⌝ }
 {
     match c {
         Cursor::Begin(p) => Stepped {
@@ -164,7 +165,7 @@ pub fn step(s: &[u8], c: Cursor) -> Stepped
             event: Event::enter(row_name(part), p),
             next: Cursor::Between(part, p),
         },
-        Cursor::Between(part, p) => step_between(s, part, p),
+        Cursor::Between(part, p) => step_between(s, kinds, part, p),
         Cursor::Entered(part, n, p) => Stepped {
             event: Event::exit(n, p),
             next: Cursor::Between(part, p),
@@ -178,14 +179,14 @@ pub fn step(s: &[u8], c: Cursor) -> Stepped
 }
 
 // Every slot is filled with what comes from a cursor.
-pub fn fill(sheet: &[u8], c: Cursor, slots: &mut [Event])
-    requires { ⌜ Good (now sheet) c ⌝ }
-    ensures { λ _. ⌜ now (slots .exit) ≡ gave (now (sheet .entry)) (length (now (slots .entry))) c ⌝ }
+pub fn fill(sheet: &[u8], kinds: &[u8], c: Cursor, slots: &mut [Event])
+    requires { ⌜ Good (now sheet) c × Passes (now kinds) ⌝ }
+    ensures { λ _. ⌜ now (slots .exit) ≡ gave (kindIn (now (kinds .entry))) (now (sheet .entry)) (length (now (slots .entry))) c ⌝ }
 {
     let mut cursor = c;
     let mut i = 0;
     while i < slots.len() {
-        let r = step(sheet, cursor);
+        let r = step(sheet, kinds, cursor);
         slots[i] = r.event;
         cursor = r.next;
         i += 1;

@@ -4,6 +4,7 @@ use sheet::calls::Sheet;
 use sheet_buffers::read_small;
 use tokenizer::event::Event;
 use tokenizer::event::Name;
+use tokenizer::kinds::builtin;
 ghost use Prim.Native.Nat.{_≤_};
 
 // What the walk over the events has seen: how many tables, how many alignments, the letter of the rows, and the cell's line and text.
@@ -219,7 +220,8 @@ fn refused(n: u8) {
 
 // What is printed for a sheet.
 fn sheet_listed(text: &[u8]) {
-    let r = read_small(text, true);
+    let kinds = builtin();
+    let r = read_small(text, &kinds, true);
     let answer = r.answer;
     let events = r.results;
     let aligned = r.alignments;

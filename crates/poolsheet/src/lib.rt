@@ -20,6 +20,7 @@ use tokenizer::event::Event;
 ghost use mathlib.Core.Path.{_≡_};
 ghost use mathlib.Core.Bool.{_||_};
 ghost use lib.ListN.{length};
+ghost use Rattle.tokenizer.specs.Bytes.{kindOf};
 ghost use Rattle.gfm_table.specs.Calls.{headOf, headSlots, rowOf, rowSlots};
 ghost use Rattle.edit_map.specs.Answers.{resolveAnswer, resolveSlots, alignAnswer, alignSlots};
 ghost use Rattle.edit_map.specs.EditAnswer.{editAnswer, editSlots, editResults};
@@ -39,9 +40,9 @@ pub extern "C" fn poolsheet_head(
     raw: &mut [Event],
     counts: &mut [usize; 3],
 ) -> u8
-    ensures { λ r. ⌜ (r ≡ numberOfHead (headOf (now (sheet .entry)) offset «code_indented» (lazy || pierced) (length (now (raw .entry)))))
-        × ((now (raw .exit) ≡ headSlots (now (sheet .entry)) offset «code_indented» (lazy || pierced) (length (now (raw .entry))))
-        × (now (counts .exit) ≡ countsOfHead (headOf (now (sheet .entry)) offset «code_indented» (lazy || pierced) (length (now (raw .entry)))))) ⌝ }
+    ensures { λ r. ⌜ (r ≡ numberOfHead (headOf kindOf (now (sheet .entry)) offset «code_indented» (lazy || pierced) (length (now (raw .entry)))))
+        × ((now (raw .exit) ≡ headSlots kindOf (now (sheet .entry)) offset «code_indented» (lazy || pierced) (length (now (raw .entry))))
+        × (now (counts .exit) ≡ countsOfHead (headOf kindOf (now (sheet .entry)) offset «code_indented» (lazy || pierced) (length (now (raw .entry)))))) ⌝ }
 {
     let a = head(sheet, offset, code_indented, lazy, pierced, raw);
     *counts = head_counts(a);
@@ -57,9 +58,9 @@ pub extern "C" fn poolsheet_row(
     raw: &mut [Event],
     counts: &mut [usize; 2],
 ) -> u8
-    ensures { λ r. ⌜ (r ≡ numberOfRow (rowOf (now (sheet .entry)) offset lazy (length (now (raw .entry)))))
-        × ((now (raw .exit) ≡ rowSlots (now (sheet .entry)) offset lazy (length (now (raw .entry))))
-        × (now (counts .exit) ≡ countsOfRow (rowOf (now (sheet .entry)) offset lazy (length (now (raw .entry)))))) ⌝ }
+    ensures { λ r. ⌜ (r ≡ numberOfRow (rowOf kindOf (now (sheet .entry)) offset lazy (length (now (raw .entry)))))
+        × ((now (raw .exit) ≡ rowSlots kindOf (now (sheet .entry)) offset lazy (length (now (raw .entry))))
+        × (now (counts .exit) ≡ countsOfRow (rowOf kindOf (now (sheet .entry)) offset lazy (length (now (raw .entry)))))) ⌝ }
 {
     let a = row(sheet, offset, lazy, raw);
     *counts = row_counts(a);
@@ -118,23 +119,24 @@ pub extern "C" fn poolsheet_align(
     align_number(a)
 }
 
-// A whole sheet. Counts: tables, raw events, result events, alignments.
+// A whole sheet, read by a table of kinds. Counts: tables, raw events, result events, alignments.
 #[no_mangle]
 pub extern "C" fn poolsheet_sheet(
     sheet: &[u8],
+    kinds: &[u8],
     code_indented: bool,
     raw: &mut [Event],
     results: &mut [Event],
     alignments: &mut [u8],
     counts: &mut [usize; 4],
 ) -> u8
-    ensures { λ r. ⌜ (r ≡ numberOfSheet (sheetOf (now (sheet .entry)) «code_indented» (length (now (raw .entry))) (length (now (results .entry))) (length (now (alignments .entry)))))
-        × ((now (raw .exit) ≡ sheetRaw (now (sheet .entry)) «code_indented» (length (now (raw .entry))) (length (now (results .entry))) (length (now (alignments .entry))))
-        × ((now (results .exit) ≡ sheetResults (now (sheet .entry)) «code_indented» (length (now (raw .entry))) (length (now (results .entry))) (length (now (alignments .entry))))
-        × ((now (alignments .exit) ≡ sheetAligned (now (sheet .entry)) «code_indented» (length (now (raw .entry))) (length (now (results .entry))) (length (now (alignments .entry))))
-        × (now (counts .exit) ≡ countsOfSheet (sheetOf (now (sheet .entry)) «code_indented» (length (now (raw .entry))) (length (now (results .entry))) (length (now (alignments .entry)))))))) ⌝ }
+    ensures { λ r. ⌜ (r ≡ numberOfSheet (sheetOf (now (sheet .entry)) (now (kinds .entry)) «code_indented» (length (now (raw .entry))) (length (now (results .entry))) (length (now (alignments .entry)))))
+        × ((now (raw .exit) ≡ sheetRaw (now (sheet .entry)) (now (kinds .entry)) «code_indented» (length (now (raw .entry))) (length (now (results .entry))) (length (now (alignments .entry))))
+        × ((now (results .exit) ≡ sheetResults (now (sheet .entry)) (now (kinds .entry)) «code_indented» (length (now (raw .entry))) (length (now (results .entry))) (length (now (alignments .entry))))
+        × ((now (alignments .exit) ≡ sheetAligned (now (sheet .entry)) (now (kinds .entry)) «code_indented» (length (now (raw .entry))) (length (now (results .entry))) (length (now (alignments .entry))))
+        × (now (counts .exit) ≡ countsOfSheet (sheetOf (now (sheet .entry)) (now (kinds .entry)) «code_indented» (length (now (raw .entry))) (length (now (results .entry))) (length (now (alignments .entry)))))))) ⌝ }
 {
-    let a = sheet::sheet(sheet, code_indented, raw, results, alignments);
+    let a = sheet::sheet(sheet, kinds, code_indented, raw, results, alignments);
     *counts = sheet_counts(a);
     sheet_number(a)
 }

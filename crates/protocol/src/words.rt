@@ -24,19 +24,27 @@ pub struct ReadBytes {
     pub count: usize,
 }
 
-// Where the line that a place lies in ends.
-pub fn line_stop(text: &[u8], at: usize) -> usize
+// Where a byte stands first, from a place on, or the text's end.
+pub fn stop_at(text: &[u8], at: usize, b: u8) -> usize
     requires { ⌜ at ≤ length (now text) ⌝ }
     ensures { λ r. ⌜ (at ≤ r) × (r ≤ length (now (text .entry))) ⌝ }
 {
     let mut i = at;
     while i < text.len() {
-        if text[i] == 10 {
+        if text[i] == b {
             return i;
         }
         i += 1;
     }
     i
+}
+
+// Where the line that a place lies in ends.
+pub fn line_stop(text: &[u8], at: usize) -> usize
+    requires { ⌜ at ≤ length (now text) ⌝ }
+    ensures { λ r. ⌜ (at ≤ r) × (r ≤ length (now (text .entry))) ⌝ }
+{
+    stop_at(text, at, 10)
 }
 
 // Where the next word starts, behind the space at a place.

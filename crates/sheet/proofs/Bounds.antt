@@ -9,7 +9,6 @@ use lib.Dec.{eqb}
 use lib.ListN.{length, drop, length-append, length-drop}
 use Rattle.tokenizer.specs.declared.event.Point.{Point}
 use Rattle.tokenizer.specs.declared.event.Event.{Event}
-use Rattle.tokenizer.specs.Bytes.{kindOf}
 use Rattle.tokenizer.specs.Events.{GfmTableRow, GfmTableDelimiterRow}
 use Rattle.tokenizer.specs.Points.{past, nextLine}
 use Rattle.tokenizer.specs.Lines.{Line, startsLF, onFirst, crlf, lines, isEmpty}
@@ -31,20 +30,21 @@ stretch-some : (b : ℕ) (cs : List (List ℕ)) → 0 < length cs → length (on
 stretch-some b [] h = omega arith
 stretch-some b (c ∷ cs) h = refl
 
-stretches-few : (u : List ℕ) → (0 < length (stretches kindOf u)) × (length (stretches kindOf u) ≤ 1 + length u)
-unfolding stretches
-stretches-few [] = (omega arith, omega arith)
-stretches-few (b ∷ u) = go (eqb (kindOf b) 3) (stretches-few u)
-  where
-    go : (t : Bool) → (0 < length (stretches kindOf u)) × (length (stretches kindOf u) ≤ 1 + length u)
-        → (0 < length (cond t ([] ∷ stretches kindOf u) (onStretch b (stretches kindOf u)))) × (length (cond t ([] ∷ stretches kindOf u) (onStretch b (stretches kindOf u))) ≤ 1 + suc (length u))
-    go true h = (omega arith, omega arith)
-    go false h = let e = stretch-some b (stretches kindOf u) (h .0) in (omega arith, omega arith)
+module _ (kind : ℕ → ℕ) where
+  stretches-few : (u : List ℕ) → (0 < length (stretches kind u)) × (length (stretches kind u) ≤ 1 + length u)
+  unfolding stretches
+  stretches-few [] = (omega arith, omega arith)
+  stretches-few (b ∷ u) = go (eqb (kind b) 3) (stretches-few u)
+    where
+      go : (t : Bool) → (0 < length (stretches kind u)) × (length (stretches kind u) ≤ 1 + length u)
+          → (0 < length (cond t ([] ∷ stretches kind u) (onStretch b (stretches kind u)))) × (length (cond t ([] ∷ stretches kind u) (onStretch b (stretches kind u))) ≤ 1 + suc (length u))
+      go true h = (omega arith, omega arith)
+      go false h = let e = stretch-some b (stretches kind u) (h .0) in (omega arith, omega arith)
 
-trimmed-length : (cs : List (List ℕ)) → length (trimmed kindOf cs) ≡ length cs
-unfolding trimmed
-trimmed-length [] = refl
-trimmed-length (c ∷ cs) = ap suc (trimmed-length cs)
+  trimmed-length : (cs : List (List ℕ)) → length (trimmed kind cs) ≡ length cs
+  unfolding trimmed
+  trimmed-length [] = refl
+  trimmed-length (c ∷ cs) = ap suc (trimmed-length cs)
 
 unled-few : (cs : List (List ℕ)) → length (unled cs) ≤ length cs
 unled-few [] = omega arith
@@ -57,15 +57,16 @@ untrailed-few [] = omega arith
 untrailed-few (c ∷ []) = test (isEmpty c) (λ e. rw e (omega arith)) (λ e. rw e (omega arith))
 untrailed-few (c ∷ d ∷ cs) = omega (arith, untrailed-few (d ∷ cs))
 
-pub values-few : (u : List ℕ) → length (values kindOf u) ≤ 1 + length u
-values-few u =
-    let cs = trimmed kindOf (stretches kindOf u) in
-    omega (arith, untrailed-few (unled cs), unled-few cs, trimmed-length (stretches kindOf u), stretches-few u .1)
+module _ (kind : ℕ → ℕ) where
+  pub values-few : (u : List ℕ) → length (values kind u) ≤ 1 + length u
+  values-few u =
+      let cs = trimmed kind (stretches kind u) in
+      omega (arith, untrailed-few (unled cs), unled-few cs, trimmed-length kind (stretches kind u), stretches-few kind u .1)
 
-pub aligned-length : (cs : List (List ℕ)) → length (alignments kindOf cs) ≡ length cs
-unfolding alignments
-aligned-length [] = refl
-aligned-length (c ∷ cs) = ap suc (aligned-length cs)
+  pub aligned-length : (cs : List (List ℕ)) → length (alignments kind cs) ≡ length cs
+  unfolding alignments
+  aligned-length [] = refl
+  aligned-length (c ∷ cs) = ap suc (aligned-length cs)
 
 -- ## Lines
 
@@ -112,16 +113,17 @@ from-weight s p = omega (arith, placed-weight p (lines (drop (p .index) s)), lin
 table-parts : (x y : Event) (a b c d : List Event) → length (x ∷ (a ++ (b ++ (c ++ (y ∷ d))))) ≡ 2 + (length a + (length b + (length c + length d)))
 table-parts x y a b c d = simp length-append (omega arith)
 
-pub table-length : (l d : Placed) (ls : List Placed)
-    → length (rawTable (tableOf kindOf l d ls)) ≡ 8 + 2 * length (rowPieces kindOf false (l .line .body)) + 2 * length (delimiterPieces kindOf (d .line .body)) + length (rawBody (bodyRows kindOf d ls))
-table-length l d ls =
-    let t = tableOf kindOf l d ls in
-    omega (
-      arith,
-      row-length GfmTableRow (rowPieces kindOf false) (l .at) (l .line .body),
-      row-length GfmTableDelimiterRow (delimiterPieces kindOf) (d .at) (d .line .body),
-      table-parts (t .entry) (t .exit) (rawRow (t .head)) (both (t .between)) (rawRow (t .delimiter)) (rawBody (t .body)),
-    )
+module _ (kind : ℕ → ℕ) where
+  pub table-length : (l d : Placed) (ls : List Placed)
+      → length (rawTable (tableOf kind l d ls)) ≡ 8 + 2 * length (rowPieces kind false (l .line .body)) + 2 * length (delimiterPieces kind (d .line .body)) + length (rawBody (bodyRows kind d ls))
+  table-length l d ls =
+      let t = tableOf kind l d ls in
+      omega (
+        arith,
+        row-length GfmTableRow (rowPieces kind false) (l .at) (l .line .body),
+        row-length GfmTableDelimiterRow (delimiterPieces kind) (d .at) (d .line .body),
+        table-parts (t .entry) (t .exit) (rawRow (t .head)) (both (t .between)) (rawRow (t .delimiter)) (rawBody (t .body)),
+      )
 
 pub body-parts : (x y : Event) (a b : List Event) → length ((x ∷ y ∷ []) ++ (a ++ b)) ≡ 2 + (length a + length b)
 body-parts x y a b = simp length-append (omega arith)
@@ -130,43 +132,44 @@ body-parts x y a b = simp length-append (omega arith)
 abbrev pub tally : List Found → ℕ
 tally fs = length fs + (length (rawOf fs) + length (alignedOf fs))
 
-module _ (on : Bool) where
-  mutual
-    unfolding weight heads rawOf alignedOf rawBody bodyRows
+module _ (kind : ℕ → ℕ) where
+  module _ (on : Bool) where
+    mutual
+      unfolding weight heads rawOf alignedOf rawBody bodyRows
 
-    pub heads-tally : (ls : List Placed) → tally (heads kindOf on ls) ≤ 2 * weight ls
-    heads-tally [] = omega arith
-    heads-tally (l ∷ []) = omega arith
-    heads-tally (l ∷ d ∷ ls) =
-        test (opens kindOf on l d)
-        (λ e. rw e
-        (omega (
-          arith,
-          rows-tally d ls,
-          table-length l d ls,
-          row-few kindOf false (l .line .body),
-          delimiter-few kindOf (d .line .body),
-          values-few (d .line .body),
-          aligned-length (values kindOf (d .line .body)),
-          length-append (rawTable (tableOf kindOf l d ls)) (rawOf (rows kindOf on ls)),
-          length-append (alignments kindOf (values kindOf (d .line .body))) (alignedOf (rows kindOf on ls)),
-        )))
-        (λ e. rw e (omega (arith, heads-tally (d ∷ ls))))
+      pub heads-tally : (ls : List Placed) → tally (heads kind on ls) ≤ 2 * weight ls
+      heads-tally [] = omega arith
+      heads-tally (l ∷ []) = omega arith
+      heads-tally (l ∷ d ∷ ls) =
+          test (opens kind on l d)
+          (λ e. rw e
+          (omega (
+            arith,
+            rows-tally d ls,
+            table-length kind l d ls,
+            row-few kind false (l .line .body),
+            delimiter-few kind (d .line .body),
+            values-few kind (d .line .body),
+            aligned-length kind (values kind (d .line .body)),
+            length-append (rawTable (tableOf kind l d ls)) (rawOf (rows kind on ls)),
+            length-append (alignments kind (values kind (d .line .body))) (alignedOf (rows kind on ls)),
+          )))
+          (λ e. rw e (omega (arith, heads-tally (d ∷ ls))))
 
-    pub rows-tally : (l : Placed) (ls : List Placed) → length (rawBody (bodyRows kindOf l ls)) + tally (rows kindOf on ls) ≤ 2 * weight ls
-    rows-tally l [] = omega arith
-    rows-tally l (m ∷ ls) =
-        test (closes kindOf (m .line .body)) (λ e. rw e (omega (arith, heads-tally ls)))
-        (λ e. rw e
-        (omega (
-          arith,
-          rows-tally m ls,
-          row-length GfmTableRow (rowPieces kindOf false) (m .at) (m .line .body),
-          row-few kindOf false (m .line .body),
-          body-parts (lineEnd l .entry) (lineEnd l .exit) (rawRow (textRow kindOf (m .at) (m .line .body))) (rawBody (bodyRows kindOf m ls)),
-        )))
+      pub rows-tally : (l : Placed) (ls : List Placed) → length (rawBody (bodyRows kind l ls)) + tally (rows kind on ls) ≤ 2 * weight ls
+      rows-tally l [] = omega arith
+      rows-tally l (m ∷ ls) =
+          test (closes kind (m .line .body)) (λ e. rw e (omega (arith, heads-tally ls)))
+          (λ e. rw e
+          (omega (
+            arith,
+            rows-tally m ls,
+            row-length GfmTableRow (rowPieces kind false) (m .at) (m .line .body),
+            row-few kind false (m .line .body),
+            body-parts (lineEnd l .entry) (lineEnd l .exit) (rawRow (textRow kind (m .at) (m .line .body))) (rawBody (bodyRows kind m ls)),
+          )))
 
--- so many bytes, so many counts
-module _ (s : List ℕ) (on : Bool) (p : Point) where
-  pub from-tally : tally (heads kindOf on (linesFrom s p)) ≤ 12 * length s + 8
-  from-tally = omega (arith, heads-tally on (linesFrom s p), from-weight s p)
+  -- so many bytes, so many counts
+  module _ (s : List ℕ) (on : Bool) (p : Point) where
+    pub from-tally : tally (heads kind on (linesFrom s p)) ≤ 12 * length s + 8
+    from-tally = omega (arith, heads-tally on (linesFrom s p), from-weight s p)

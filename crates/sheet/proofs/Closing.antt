@@ -6,14 +6,14 @@ use mathlib.Core.Bool.{true, false, and-false, true≢false}
 use mathlib.Core.List.{List, [], _∷_}
 use native.Mathlib.Omega.{arith}
 use borrow.Author.Tests.{eq-eqb, ne-eqb, eqb-true, eqb-false, lt-leb}
-use lib.Dec.{eqb}
+use lib.Dec.{eqb, leb}
 use lib.ListN.{length, drop, getD}
-use Rattle.tokenizer.specs.Bytes.{kindOf}
+use Rattle.tokenizer.specs.Bytes.{kindOf, Reads}
 use Rattle.tokenizer.specs.Points.{columnAfter, columnPast}
 use Rattle.tokenizer.specs.Lines.{indent, unindented, blank}
 use Rattle.tokenizer.specs.Moves.{aheadOf}
 use Rattle.tokenizer.proofs.Runs.{space-split}
-use Rattle.tokenizer.proofs.Widths.{bytes-wide}
+use Rattle.tokenizer.proofs.Widths.{bytes-wide, same-indent}
 use Rattle.tokenizer.proofs.Ahead.{Front, goes, rest-end}
 use Rattle.gfm_table.specs.Heads.{shallow}
 use Rattle.gfm_table.specs.Places.{pointIn}
@@ -63,6 +63,10 @@ module _ (kind : ℕ → ℕ) (u : List ℕ) (b : ℕ) (v : List ℕ) (e : unind
 pub deep : (kind : ℕ → ℕ) (u : List ℕ) → (length (indent kind u) < 4 → ⊥) → shallow kind u ≡ false
 deep kind u h = lt-leb (columnPast 1 (indent kind u)) 4 (omega (arith, bytes-wide 1 (indent kind u)))
 
+-- how wide it is does not depend on the kinds, if they can be read by
+pub same-shallow : {kind : ℕ → ℕ} → Reads kind → (u : List ℕ) → shallow kindOf u ≡ shallow kind u
+same-shallow ok u = ap (λ (w : List ℕ). leb (columnPast 1 w) 4) (same-indent ok u)
+
 -- a tab leads past column 4
 pub tab-far : (c : ℕ) → 0 < c → 4 < columnAfter c 9
 unfolding columnAfter
@@ -81,17 +85,19 @@ none-past c (b ∷ u) h = absurd (omega arith)
 
 -- ## The indent of the line at a place
 
--- where it has a byte, that is the one at the place
-pub indent-front : (s : List ℕ) (i : ℕ) → 0 < length (indent kindOf (lineFrom s i)) → Front s i 1
-indent-front s i h =
-    test (eqb (aheadOf kindOf (drop i s)) 1)
-    (λ e. goes s i 1 (sym (eqb-true (aheadOf kindOf (drop i s)) 1 e)) (λ z. omega arith))
-    (λ e. absurd (omega (arith, spaces-stop s i (eqb-false (aheadOf kindOf (drop i s)) 1 e))))
+module _ {kind : ℕ → ℕ} (ok : Reads kind) where
+  -- where it has a byte, that is the one at the place
+  pub indent-front : (s : List ℕ) (i : ℕ) → 0 < length (indent kind (lineFrom s i)) → Front kind s i 1
+  indent-front s i h =
+      test (eqb (aheadOf kind (drop i s)) 1)
+      (λ e. goes ok s i 1 (sym (eqb-true (aheadOf kind (drop i s)) 1 e)) (λ z. omega arith))
+      (λ e. absurd (omega (arith, spaces-stop ok s i (eqb-false (aheadOf kind (drop i s)) 1 e))))
 
--- behind it stands what is left of the line where its whitespace ends
-pub unindented-at : (s : List ℕ) (i e k : ℕ) → e ≡ i + length (indent kindOf (lineFrom s i)) → Front s e k → unindented kindOf (lineFrom s i) ≡ getD s e 0 ∷ lineFrom s (e + 1)
-unindented-at s i e k h f =
-    sym (rest-end (indent kindOf) (unindented kindOf) (space-split kindOf) s (pointIn 0 i 1)) ∙ ap (lineFrom s) (sym h) ∙ f .line
+module _ (kind : ℕ → ℕ) where
+  -- behind it stands what is left of the line where its whitespace ends
+  pub unindented-at : (s : List ℕ) (i e k : ℕ) → e ≡ i + length (indent kind (lineFrom s i)) → Front kind s e k → unindented kind (lineFrom s i) ≡ getD s e 0 ∷ lineFrom s (e + 1)
+  unindented-at s i e k h f =
+      sym (rest-end (indent kind) (unindented kind) (space-split kind) s (pointIn 0 i 1)) ∙ ap (lineFrom s) (sym h) ∙ f .line
 
 -- a line that ends no table is not empty
 pub solid-length : (kind : ℕ → ℕ) (u : List ℕ) → closes kind u ≡ false → 0 < length u

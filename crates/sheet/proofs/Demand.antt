@@ -1,7 +1,9 @@
--- Demand 3, for every table of kinds.
+-- Demand 3, for all kinds, and so for every table of kinds that passes.
 -- Assumes nothing.
 use Prim.Native.Nat.{ℕ}
-use Rattle.sheet.specs.Demands.{Demand}
+use mathlib.Core.List.{List}
+use Rattle.tokenizer.specs.Bytes.{kindIn, Passes}
+use Rattle.sheet.specs.Demands.{Demand, DemandBy}
 use Rattle.sheet.proofs.Beyond.{beyond, bom-passed}
 use Rattle.sheet.proofs.Exchange.{exchange}
 use Rattle.sheet.proofs.Counts.{counted}
@@ -23,3 +25,6 @@ demand kind =
       unquoted = unquoted kind;
       bomPassed = bom-passed kind;
     }
+
+pub demand-by : (t : List ℕ) → Passes t → DemandBy t
+demand-by t p = record { demand = demand (kindIn t); noRemark = unquoted (kindIn t) (p .reads .quote) }

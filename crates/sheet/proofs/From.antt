@@ -9,7 +9,7 @@ use borrow.Author.Tests.{eq-eqb, ne-eqb, ltb-true, lt-ltb}
 use lib.Dec.{eqb, ltb}
 use lib.ListN.{length, drop}
 use Rattle.tokenizer.specs.declared.event.Point.{Point}
-use Rattle.tokenizer.specs.Bytes.{kindOf}
+use Rattle.tokenizer.specs.Bytes.{Reads}
 use Rattle.tokenizer.specs.Lines.{lineBody, endAt}
 use Rattle.tokenizer.specs.Places.{Placed, linesFrom, linesPast, firstPoint}
 use Rattle.tokenizer.specs.Moves.{restOf, lineAt, after, Inside}
@@ -21,7 +21,6 @@ use Rattle.gfm_table.specs.Heads.{solid, permitted, loneDivider, marked, values
 use Rattle.gfm_table.specs.Delimiters.{valueCount}
 use Rattle.gfm_table.specs.Places.{pointIn}
 use Rattle.gfm_table.proofs.ValuePlaces.{row-counted, count-values}
-use Rattle.sheet.proofs.Tests.{test}
 use Rattle.sheet.specs.Walk.{closes, opens, found, heads, rows}
 use Rattle.sheet.specs.From.{AtLine, columnsIf, columnsOf, Opens, here}
 
@@ -48,26 +47,6 @@ module _ (s : List ℕ) (p : Point) where
   pub after-line : (lineAt s p .end ≡ 0 → ⊥) → Inside s p → AtLine s (after s p)
   after-line z h = record { inside = after-inside s p z h; first = refl }
 
-  -- ## Heads
-
-  module _ (on : Bool) where
-    pub heads-last : lineAt s p .end ≡ 0 → heads kindOf on (linesFrom s p) ≡ []
-    unfolding heads
-    heads-last e = rw (lines-from s p, past-last e)
-
-    pub heads-at-closing : closes kindOf (restOf s p) ≡ true → heads kindOf on (linesFrom s p) ≡ heads kindOf on (linesPast s p)
-    heads-at-closing e = rw (lines-from s p) (heads-closed kindOf on (here s p) (linesPast s p) e)
-
-    module _ (z : lineAt s p .end ≡ 0 → ⊥) where
-      pub heads-prose : opens kindOf on (here s p) (here s (after s p)) ≡ false → heads kindOf on (linesFrom s p) ≡ heads kindOf on (linesFrom s (after s p))
-      unfolding heads
-      heads-prose e = rw (lines-from s p, past-more z, lines-from s (after s p), e)
-
-      heads-open : opens kindOf on (here s p) (here s (after s p)) ≡ true
-          → heads kindOf on (linesFrom s p) ≡ found kindOf on (here s p) (here s (after s p)) (linesPast s (after s p)) ∷ rows kindOf on (linesPast s (after s p))
-      unfolding heads
-      heads-open e = rw (lines-from s p, past-more z, lines-from s (after s p), e)
-
 -- ## A line that is read: e is where its bytes end, n how long its line end is
 
 module _ (s : List ℕ) (l i e n : ℕ) (f : e ≡ i + length (lineBody (drop i s))) (g : n ≡ endAt (drop e s)) where
@@ -89,6 +68,26 @@ module _ (s : List ℕ) (l i e n : ℕ) (f : e ≡ i + length (lineBody (drop i 
 
     pub read-line : (n ≡ 0 → ⊥) → AtLine s (pointIn (l + 1) (e + n) 1)
     read-line z = rw read-next (after-line s from (λ w. z (read-end ∙ w)) (h .inside))
+
+-- ## Heads
+
+module _ (kind : ℕ → ℕ) (s : List ℕ) (p : Point) (on : Bool) where
+  pub heads-last : lineAt s p .end ≡ 0 → heads kind on (linesFrom s p) ≡ []
+  unfolding heads
+  heads-last e = rw (lines-from s p, past-last s p e)
+
+  pub heads-at-closing : closes kind (restOf s p) ≡ true → heads kind on (linesFrom s p) ≡ heads kind on (linesPast s p)
+  heads-at-closing e = rw (lines-from s p) (heads-closed kind on (here s p) (linesPast s p) e)
+
+  module _ (z : lineAt s p .end ≡ 0 → ⊥) where
+    pub heads-prose : opens kind on (here s p) (here s (after s p)) ≡ false → heads kind on (linesFrom s p) ≡ heads kind on (linesFrom s (after s p))
+    unfolding heads
+    heads-prose e = rw (lines-from s p, past-more s p z, lines-from s (after s p), e)
+
+    heads-open : opens kind on (here s p) (here s (after s p)) ≡ true
+        → heads kind on (linesFrom s p) ≡ found kind on (here s p) (here s (after s p)) (linesPast s (after s p)) ∷ rows kind on (linesPast s (after s p))
+    unfolding heads
+    heads-open e = rw (lines-from s p, past-more s p z, lines-from s (after s p), e)
 
 -- ## A line is tried as a head
 
@@ -123,7 +122,7 @@ row-some true true n c h = go (ltb 0 n) refl h
 row-some true false n c h = absurd (false≢true h)
 row-some false b n c h = absurd (false≢true h)
 
-module _ (s : List ℕ) (on : Bool) (p : Point) where
+module _ (kind : ℕ → ℕ) (s : List ℕ) (on : Bool) (p : Point) where
   abbrev head : List ℕ
   head = restOf s p
 
@@ -131,62 +130,66 @@ module _ (s : List ℕ) (on : Bool) (p : Point) where
   row = restOf s (after s p)
 
   -- no columns, no head
-  pub columns-none : columnsOf s on (p .index) (after s p .index) ≡ 0 → opens kindOf on (here s p) (here s (after s p)) ≡ false
+  pub columns-none : (columnsOf kind) s on (p .index) (after s p .index) ≡ 0 → opens kind on (here s p) (here s (after s p)) ≡ false
   columns-none =
-      no-columns (permitted kindOf on head) (eqb (lineAt s p .end) 0) (loneDivider (solid (rowPieces kindOf false head))) (closes kindOf head) (isDelimiterRow kindOf on row) (length (values kindOf row))
-      (eqb (length (values kindOf row)) (headCells kindOf head)) (row-some (permitted kindOf on row) (marked kindOf row) (length (values kindOf row)) (allValues kindOf (values kindOf row)))
+      no-columns (permitted kind on head) (eqb (lineAt s p .end) 0) (loneDivider (solid (rowPieces kind false head))) (closes kind head) (isDelimiterRow kind on row) (length (values kind row))
+      (eqb (length (values kind row)) (headCells kind head)) (row-some (permitted kind on row) (marked kind row) (length (values kind row)) (allValues kind (values kind row)))
 
   -- some columns, a head with as many values
-  columns-some : (lineAt s p .end ≡ 0 → ⊥) → (columnsOf s on (p .index) (after s p .index) ≡ 0 → ⊥)
-      → (opens kindOf on (here s p) (here s (after s p)) ≡ true) × (columnsOf s on (p .index) (after s p .index) ≡ length (values kindOf row))
+  columns-some : (lineAt s p .end ≡ 0 → ⊥) → (columnsOf kind s on (p .index) (after s p .index) ≡ 0 → ⊥)
+      → (opens kind on (here s p) (here s (after s p)) ≡ true) × (columnsOf kind s on (p .index) (after s p .index) ≡ length (values kind row))
   columns-some z h =
-      let y = some-columns (permitted kindOf on head) (loneDivider (solid (rowPieces kindOf false head))) (closes kindOf head) (isDelimiterRow kindOf on row) (length (values kindOf row)) (eqb (length (values kindOf row)) (headCells kindOf head)) h in
+      let y = some-columns (permitted kind on head) (loneDivider (solid (rowPieces kind false head))) (closes kind head) (isDelimiterRow kind on row) (length (values kind row)) (eqb (length (values kind row)) (headCells kind head)) h in
       (rw (ne-eqb (lineAt s p .end) 0 z) (y .0), y .1)
 
 -- ## Its columns, counted
 
-module _ (s : List ℕ) (on : Bool) (i d : ℕ) where
+module _ {kind : ℕ → ℕ} (ok : Reads kind) (s : List ℕ) (on : Bool) (i d : ℕ) where
   abbrev counted : List ℕ
   counted = lineBody (drop d s)
 
   -- the next line has no values
-  pub columns-zero : 0 ≡ valueCount counted → 0 ≡ columnsOf s on i d
-  columns-zero h = rw (row-counted counted on, ← h, and-false (permitted kindOf on counted))
+  pub columns-zero : 0 ≡ valueCount kind counted → 0 ≡ columnsOf kind s on i d
+  columns-zero h = rw (row-counted ok counted on, ← h, and-false (permitted kind on counted))
 
   -- its indent is not permitted
-  pub columns-row : permitted kindOf on counted ≡ false → 0 ≡ columnsOf s on i d
+  pub columns-row : permitted kind on counted ≡ false → 0 ≡ columnsOf kind s on i d
   columns-row h = rw h
 
   -- the head line's indent is not
-  pub columns-head : permitted kindOf on (lineBody (drop i s)) ≡ false → 0 ≡ columnsOf s on i d
-  columns-head h = rw (h, and-false (isDelimiterRow kindOf on counted))
+  pub columns-head : permitted kind on (lineBody (drop i s)) ≡ false → 0 ≡ columnsOf kind s on i d
+  columns-head h = rw (h, and-false (isDelimiterRow kind on counted))
 
   -- the head line is blank or a remark
-  pub columns-closed : closes kindOf (lineBody (drop i s)) ≡ true → 0 ≡ columnsOf s on i d
-  columns-closed h = rw (h, and-false (permitted kindOf on (lineBody (drop i s))), and-false (isDelimiterRow kindOf on counted))
+  pub columns-closed : closes kind (lineBody (drop i s)) ≡ true → 0 ≡ columnsOf kind s on i d
+  columns-closed h = rw (h, and-false (permitted kind on (lineBody (drop i s))), and-false (isDelimiterRow kind on counted))
 
   -- the next line has values, both indents are permitted, and the head line is neither
-  pub columns-both : (valueCount counted ≡ 0 → ⊥) → permitted kindOf on counted ≡ true → permitted kindOf on (lineBody (drop i s)) ≡ true → closes kindOf (lineBody (drop i s)) ≡ false → columnsIf s i (valueCount counted) ≡ columnsOf s on i d
+  pub columns-both : (valueCount kind counted ≡ 0 → ⊥) → permitted kind on counted ≡ true → permitted kind on (lineBody (drop i s)) ≡ true → closes kind (lineBody (drop i s)) ≡ false → columnsIf kind s i (valueCount kind counted) ≡ columnsOf kind s on i d
   columns-both z h k w =
-      let v : 0 < valueCount counted = omega (arith, z) in
-      rw (row-counted counted on, h, k, w, lt-ltb 0 (valueCount counted) v) (ap (columnsIf s i) (count-values counted v))
+      let v : 0 < valueCount kind counted = omega (arith, z) in
+      rw (row-counted ok counted on, h, k, w, lt-ltb 0 (valueCount kind counted) v) (ap (columnsIf kind s i) (count-values ok counted v))
 
-  -- the head line has other cells, whatever it is
-  pub columns-other : (valueCount counted ≡ 0 → ⊥) → permitted kindOf on counted ≡ true → permitted kindOf on (lineBody (drop i s)) ≡ true → columnsIf s i (valueCount counted) ≡ 0
-      → 0 ≡ columnsOf s on i d
-  columns-other z h k e = test (closes kindOf (lineBody (drop i s))) (λ w. columns-closed w) (λ w. sym e ∙ columns-both z h k w)
+  -- the next line has values, and the head line has other cells, whatever else it is
+  pub columns-few : (valueCount kind counted ≡ 0 → ⊥) → columnsIf kind s i (valueCount kind counted) ≡ 0 → 0 ≡ columnsOf kind s on i d
+  columns-few z e = go (isDelimiterRow kind on counted && (permitted kind on (lineBody (drop i s)) && not (closes kind (lineBody (drop i s)))))
+    where
+      go : (t : Bool) → 0 ≡ cond t (columnsIf kind s i (length (values kind counted))) 0
+      go true = let v : 0 < valueCount kind counted = omega (arith, z) in sym (ap (columnsIf kind s i) (sym (count-values ok counted v)) ∙ e)
+      go false = refl
 
--- a head that is found at a line from which the same tables come
-pub opened-here : (s : List ℕ) (on : Bool) (p : Point) (l i d c : ℕ) → AtLine s (pointIn l i 1) → (lineAt s (pointIn l i 1) .end ≡ 0 → ⊥) → heads kindOf on (linesFrom s (pointIn l i 1)) ≡ heads kindOf on (linesFrom s p)
-    → d ≡ after s (pointIn l i 1) .index → c ≡ columnsOf s on i d → (c ≡ 0 → ⊥) → Opens s on p (record { found = true; line = l; at = i; delimiter = d; columns = c })
-opened-here s on p l i d c h z e f g k =
-    let q = pointIn l i 1 in
-    let x : c ≡ columnsOf s on i (after s q .index) = g ∙ ap (columnsOf s on i) f in
-    let y = columns-some s on q z (λ w. k (x ∙ w)) in
-    record {
-      at = h;
-      ended = z;
-      delimiter = f;
-      columns = x ∙ y .1 ∙ ap (λ (j : ℕ). length (values kindOf (lineBody (drop j s)))) (sym f);
-      tables = sym e ∙ heads-open s q on z (y .0);
-    }
+module _ (kind : ℕ → ℕ) where
+  -- a head that is found at a line from which the same tables come
+  pub opened-here : (s : List ℕ) (on : Bool) (p : Point) (l i d c : ℕ) → AtLine s (pointIn l i 1) → (lineAt s (pointIn l i 1) .end ≡ 0 → ⊥) → heads kind on (linesFrom s (pointIn l i 1)) ≡ heads kind on (linesFrom s p)
+      → d ≡ after s (pointIn l i 1) .index → c ≡ columnsOf kind s on i d → (c ≡ 0 → ⊥) → Opens kind s on p (record { found = true; line = l; at = i; delimiter = d; columns = c })
+  opened-here s on p l i d c h z e f g k =
+      let q = pointIn l i 1 in
+      let x : c ≡ columnsOf kind s on i (after s q .index) = g ∙ ap (columnsOf kind s on i) f in
+      let y = columns-some kind s on q z (λ w. k (x ∙ w)) in
+      record {
+        at = h;
+        ended = z;
+        delimiter = f;
+        columns = x ∙ y .1 ∙ ap (λ (j : ℕ). length (values kind (lineBody (drop j s)))) (sym f);
+        tables = sym e ∙ heads-open kind s q on z (y .0);
+      }

@@ -1,11 +1,13 @@
 -- The hypotheses of demand 3 can be met. Remarks and marked sheets read by computing.
 -- Assumes nothing.
 use Prim.Native.Nat.{ℕ}
-use mathlib.Core.Path.{_≡_, refl}
+use mathlib.Core.Path.{_≡_, refl, ap}
 use mathlib.Core.List.{List, [], _∷_, _++_, List·Memᴰ·head}
-use mathlib.Core.Bool.{true, false}
+use mathlib.Core.Bool.{Bool, true, false, cond}
+use lib.Dec.{eqb}
 use lib.ListN.{length}
-use Rattle.tokenizer.specs.Bytes.{kindOf}
+use Rattle.tokenizer.specs.Bytes.{kindOf, tabulated, builtIn, kindIn, each, count, kindsRefusal}
+use Rattle.tokenizer.proofs.KindTables.{built-is}
 use Rattle.tokenizer.specs.Points as Points
 use Rattle.tokenizer.specs.Lines as Lines
 use Rattle.tokenizer.specs.Lines.{bom, startsLine}
@@ -86,3 +88,43 @@ entries (f ∷ fs) = (f .table .entry .index, f .table .entry .column) ∷ entri
 bom-read : (entries (tables kindOf true (bom ++ table)) ≡ (3, 1) ∷ []) × (entries (tables kindOf true (bom ++ (62 ∷ table))) ≡ [])
 unfolding kindOf Points.columnPast Points.columnAfter Lines.lines Lines.indent Lines.unindented Places.placed Rows.rowPieces Rows.delimiterPieces Rows.passed Heads.solid Heads.dividers Heads.trailing Heads.stretches Heads.untailed Heads.trimmed Heads.untrailed Heads.hyphens Heads.allValues Heads.marked Heads.alignments Walk.closes Walk.heads Walk.bodyRows entries
 bom-read = (refl, refl)
+
+-- ## Tables of kinds
+
+-- the built-in kinds, but for one byte
+abbrev but : ℕ → ℕ → (ℕ → ℕ) → ℕ → ℕ
+but b k kind c = cond (eqb c b) k (kind c)
+
+-- `;` is the pipe, and `|` is data
+abbrev semicolon : List ℕ
+semicolon = tabulated (but 59 3 (but 124 0 kindOf)) 0 256
+
+-- it passes
+semicolon-passes : kindsRefusal semicolon ≡ 0
+unfolding kindsRefusal each count kindIn tabulated kindOf
+semicolon-passes = refl
+
+-- with it `a;b` over `-;-` is a table of two columns, and `a|b` over `-|-` is none
+semicolon-read :
+    (entries (tables (kindIn semicolon) true (97 ∷ 59 ∷ 98 ∷ 10 ∷ 45 ∷ 59 ∷ 45 ∷ 10 ∷ [])) ≡ (0, 1) ∷ [])
+    × (entries (tables (kindIn semicolon) true table) ≡ [])
+unfolding kindIn tabulated kindOf Points.columnPast Points.columnAfter Lines.lines Lines.indent Lines.unindented Places.placed Rows.rowPieces Rows.delimiterPieces Rows.passed Heads.solid Heads.dividers Heads.trailing Heads.stretches Heads.untailed Heads.trimmed Heads.untrailed Heads.hyphens Heads.allValues Heads.marked Heads.alignments Walk.closes Walk.heads Walk.bodyRows entries
+semicolon-read = (refl, refl)
+
+-- no table, one entry too few and one too many, and a kind above 6; byte 11 as a space, and byte 9 as none; two pipes, none, and `>` as the pipe
+refusals :
+    (kindsRefusal [] ≡ 20)
+    × (kindsRefusal (tabulated kindOf 0 255) ≡ 20)
+    × (kindsRefusal (tabulated kindOf 0 257) ≡ 20)
+    × (kindsRefusal (tabulated (but 97 7 kindOf) 0 256) ≡ 20)
+    × (kindsRefusal (tabulated (but 11 1 kindOf) 0 256) ≡ 21)
+    × (kindsRefusal (tabulated (but 9 0 kindOf) 0 256) ≡ 21)
+    × (kindsRefusal (tabulated (but 59 3 kindOf) 0 256) ≡ 22)
+    × (kindsRefusal (tabulated (but 124 0 kindOf) 0 256) ≡ 22)
+    × (kindsRefusal (tabulated (but 62 3 (but 124 0 kindOf)) 0 256) ≡ 22)
+unfolding kindsRefusal each count kindIn tabulated kindOf
+refusals = (refl, refl, refl, refl, refl, refl, refl, refl, refl)
+
+-- with the built-in table the tables are those of the built-in kinds
+pub built-tables : (s : List ℕ) (on : Bool) → tables (kindIn builtIn) on s ≡ tables kindOf on s
+built-tables s on = ap (λ (kind : ℕ → ℕ). tables kind on s) built-is

@@ -7,7 +7,6 @@ use mathlib.Core.List.{List, [], _∷_}
 use Rattle.tokenizer.specs.declared.event.Point.{Point}
 use lib.ListN.{length, drop}
 use Rattle.tokenizer.specs.declared.event.Event.{Event}
-use Rattle.tokenizer.specs.Bytes.{kindOf}
 use Rattle.tokenizer.specs.Events.{GfmTableHead, leave, pointOf}
 use Rattle.tokenizer.specs.Lines.{lineBody}
 use Rattle.tokenizer.specs.Places.{Placed, endOf, linesFrom, linesPast}
@@ -31,48 +30,49 @@ unfolding lastExit
 last-exit e f [] h = h
 last-exit e f (b ∷ bs) h = refl
 
-module _ (s : List ℕ) (p : Point) where
-  -- no line is next
-  pub last-end : lineAt s p .end ≡ 0 → lastPoint s p ≡ endOf (here s p)
-  unfolding bodyRows lastExit
-  last-end e = ap (λ (ls : List Placed). pointOf (lastExit (leave GfmTableHead (endOf (here s p))) (bodyRows kindOf (here s p) ls))) (past-last s p e)
-
-  module _ (z : lineAt s p .end ≡ 0 → ⊥) where
-    -- a line is next that ends the table
-    pub last-closed : closes kindOf (restOf s (after s p)) ≡ true → lastPoint s p ≡ endOf (here s p)
+module _ (kind : ℕ → ℕ) where
+  module _ (s : List ℕ) (p : Point) where
+    -- no line is next
+    pub last-end : lineAt s p .end ≡ 0 → lastPoint kind s p ≡ endOf (here s p)
     unfolding bodyRows lastExit
-    last-closed b = ap (λ (ls : List Placed). pointOf (lastExit (leave GfmTableHead (endOf (here s p))) (bodyRows kindOf (here s p) ls))) (next-lines s p z) ∙ rw b
+    last-end e = ap (λ (ls : List Placed). pointOf (lastExit (leave GfmTableHead (endOf (here s p))) (bodyRows kind (here s p) ls))) (past-last s p e)
 
-    -- a row is next
-    pub last-row : closes kindOf (restOf s (after s p)) ≡ false → lastPoint s p ≡ lastPoint s (after s p)
-    unfolding bodyRows lastExit
-    last-row b =
-        ap (λ (ls : List Placed). pointOf (lastExit (leave GfmTableHead (endOf (here s p))) (bodyRows kindOf (here s p) ls))) (next-lines s p z)
-        ∙ rw b (last-exit _ _ (bodyRows kindOf (here s (after s p)) (linesPast s (after s p))) refl)
+    module _ (z : lineAt s p .end ≡ 0 → ⊥) where
+      -- a line is next that ends the table
+      pub last-closed : closes kind (restOf s (after s p)) ≡ true → lastPoint kind s p ≡ endOf (here s p)
+      unfolding bodyRows lastExit
+      last-closed b = ap (λ (ls : List Placed). pointOf (lastExit (leave GfmTableHead (endOf (here s p))) (bodyRows kind (here s p) ls))) (next-lines kind s p z) ∙ rw b
 
--- ## A table
+      -- a row is next
+      pub last-row : closes kind (restOf s (after s p)) ≡ false → lastPoint kind s p ≡ lastPoint kind s (after s p)
+      unfolding bodyRows lastExit
+      last-row b =
+          ap (λ (ls : List Placed). pointOf (lastExit (leave GfmTableHead (endOf (here s p))) (bodyRows kind (here s p) ls))) (next-lines kind s p z)
+          ∙ rw b (last-exit _ _ (bodyRows kind (here s (after s p)) (linesPast s (after s p))) refl)
 
-module _ (s : List ℕ) (on : Bool) (w : Where) (o : Opening) (h : Opens s on (startOf w) o) where
-  -- the line of its delimiter row
-  row-point : after s (openingPoint o) ≡ pointIn (o .line + 1) (o .delimiter) 1
-  row-point i = record { line = o .line + 1; column = 1; index = sym (h .delimiter) i; vs = 0 }
+  -- ## A table
 
-  pub row-line : AtLine s (pointIn (o .line + 1) (o .delimiter) 1)
-  row-line = subst (AtLine s) row-point (after-line s (openingPoint o) (h .ended) (h .at .inside))
+  module _ (s : List ℕ) (on : Bool) (w : Where) (o : Opening) (h : (Opens kind) s on (startOf w) o) where
+    -- the line of its delimiter row
+    row-point : after s (openingPoint o) ≡ pointIn (o .line + 1) (o .delimiter) 1
+    row-point i = record { line = o .line + 1; column = 1; index = sym (h .delimiter) i; vs = 0 }
 
-  -- the table that a head opens comes next
-  pub comes-of : (r : Tail) → EndsBody s (pointIn (o .line + 1) (o .delimiter) 1) r
-      → FirstTable s on (record { found = true; line = o .line; at = o .at; delimiter = o .delimiter; cells = o .columns; stop = r .stop; next = r .next }) (heads kindOf on (linesFrom s (startOf w)))
-  comes-of r b =
-      rw (h .tables)
-      (record {
-        found = refl;
-        at = h .at;
-        ended = h .ended;
-        table = refl;
-        delimiter = h .delimiter;
-        cells = h .columns ∙ ap (λ (j : ℕ). length (values kindOf (lineBody (drop j s)))) (h .delimiter) ∙ sym (aligned-length (values kindOf (restOf s (after s (openingPoint o)))));
-        stop = b .stop ∙ ap (lastStop s) (sym row-point);
-        next = b .at;
-        tables = ap (λ (p : Point). rows kindOf on (linesPast s p)) row-point ∙ b .tables on;
-      })
+    pub row-line : AtLine s (pointIn (o .line + 1) (o .delimiter) 1)
+    row-line = subst (AtLine s) row-point (after-line s (openingPoint o) (h .ended) (h .at .inside))
+
+    -- the table that a head opens comes next
+    pub comes-of : (r : Tail) → EndsBody kind s (pointIn (o .line + 1) (o .delimiter) 1) r
+        → FirstTable kind s on (record { found = true; line = o .line; at = o .at; delimiter = o .delimiter; cells = o .columns; stop = r .stop; next = r .next }) (heads kind on (linesFrom s (startOf w)))
+    comes-of r b =
+        rw (h .tables)
+        (record {
+          found = refl;
+          at = h .at;
+          ended = h .ended;
+          table = refl;
+          delimiter = h .delimiter;
+          cells = h .columns ∙ ap (λ (j : ℕ). length (values kind (lineBody (drop j s)))) (h .delimiter) ∙ sym (aligned-length kind (values kind (restOf s (after s (openingPoint o)))));
+          stop = b .stop ∙ ap (lastStop kind s) (sym row-point);
+          next = b .at;
+          tables = ap (λ (p : Point). rows kind on (linesPast s p)) row-point ∙ b .tables on;
+        })

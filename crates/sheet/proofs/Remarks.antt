@@ -9,7 +9,7 @@ use borrow.Author.Tests.{eqb-true}
 use Rattle.tokenizer.specs.Lines.{isSpace, unindented}
 use Rattle.gfm_table.specs.Heads.{shallow, onStretch, stretches, trimmed, untailed, unled, untrailed, values, hyphens, allValues}
 use Rattle.sheet.specs.Walk.{startsQuote, remark}
-use Rattle.sheet.specs.Demands.{Unquoted}
+use Rattle.sheet.specs.Demands.{NoRemark}
 use Rattle.sheet.proofs.Tests.{test, both-true}
 use Rattle.sheet.proofs.Walks.{opens-head}
 
@@ -59,7 +59,7 @@ module _ (kind : ℕ → ℕ) (zero : kind 62 ≡ 0) where
       let q = quoted u v h in
       rw (q .same, q .first, zero) (no-values (untailed kind (q .v)) (trimmed kind (q .ds)))
 
-pub unquoted : (kind : ℕ → ℕ) → Unquoted kind
+pub unquoted : (kind : ℕ → ℕ) → kind 62 ≡ 0 → NoRemark kind
 unquoted kind zero on l d o =
     let u = d .line .body in
     test (remark kind u)

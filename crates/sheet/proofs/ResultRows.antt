@@ -36,16 +36,16 @@ framed k a b es zs =
 framed-length : (k : ℕ) (a b : Event) (es : List Event) → k + 1 + length es + 1 ≡ k + length (a ∷ es ++ b ∷ [])
 framed-length k a b es = omega (arith, length-append es (b ∷ []))
 
-module _ (s : List ℕ) (t : Part) (p : Point) (k : ℕ) where
+module _ (kind : ℕ → ℕ) (s : List ℕ) (t : Part) (p : Point) (k : ℕ) where
   -- a row is no shorter than its cells
-  pub row-slots : k + 1 + length (cellsAt s t p) + 1 ≡ k + length (rowResult s t p)
-  row-slots = framed-length k (enter (nameOf t) p) (leave (nameOf t) (past p (restOf s p))) (cellsAt s t p)
+  pub row-slots : k + 1 + length (cellsAt kind s t p) + 1 ≡ k + length (rowResult kind s t p)
+  row-slots = framed-length k (enter (nameOf t) p) (leave (nameOf t) (past p (restOf s p))) (cellsAt kind s t p)
 
   pub row-said : (zs : List Event)
-      → (writtenAt (past p (restOf s p)) (k + 1 + length (cellsAt s t p) + 1) ≡ writtenAt (endOf (here s p)) (k + length (rowResult s t p)))
-      × (set (cellsWrote s t p (k + 1) (set zs k (enter (nameOf t) p))) (k + 1 + length (cellsAt s t p)) (leave (nameOf t) (past p (restOf s p))) ≡ wrote k (rowResult s t p) zs)
+      → (writtenAt (past p (restOf s p)) (k + 1 + length (cellsAt kind s t p) + 1) ≡ writtenAt (endOf (here s p)) (k + length (rowResult kind s t p)))
+      × (set (cellsWrote kind s t p (k + 1) (set zs k (enter (nameOf t) p))) (k + 1 + length (cellsAt kind s t p)) (leave (nameOf t) (past p (restOf s p))) ≡ wrote k (rowResult kind s t p) zs)
   row-said zs =
-      (ap {B = Written} (writtenAt (past p (restOf s p))) row-slots, framed k (enter (nameOf t) p) (leave (nameOf t) (past p (restOf s p))) (cellsAt s t p) zs)
+      (ap {B = Written} (writtenAt (past p (restOf s p))) row-slots, framed k (enter (nameOf t) p) (leave (nameOf t) (past p (restOf s p))) (cellsAt kind s t p) zs)
 
 -- two events
 two-said : (k : ℕ) (a b : Event) (zs : List Event) → set (set zs k a) (k + 1) b ≡ wrote k (a ∷ b ∷ []) zs
@@ -73,45 +73,45 @@ headed k a b x t u v zs =
 headed-length : (k : ℕ) (a b x : Event) (t u v : List Event) → k + 1 + 1 + length t + length u + length v + 1 ≡ k + length (a ∷ b ∷ (t ++ (u ++ (v ++ x ∷ []))))
 headed-length k a b x t u v = omega (arith, length-append t (u ++ (v ++ x ∷ [])), length-append u (v ++ x ∷ []), length-append v (x ∷ []))
 
-module _ (s : List ℕ) (p : Point) where
+module _ (kind : ℕ → ℕ) (s : List ℕ) (p : Point) where
   abbrev stop : Point
   stop = past p (restOf s p)
 
-  head-is : enter GfmTable p ∷ enter GfmTableHead p ∷ (rowResult s Body p ++ (breakResult s stop ++ (rowResult s Delimiter (after s stop) ++ leave GfmTableHead (endOf (here s (after s stop))) ∷ []))) ≡ headResult s p
-  head-is = λ i. enter GfmTable p ∷ enter GfmTableHead p ∷ (rowResult s Body p ++ (both (stop-line s p i) ++ (rowResult s Delimiter (stop-after s p i) ++ leave GfmTableHead (endOf (here s (stop-after s p i))) ∷ [])))
+  head-is : enter GfmTable p ∷ enter GfmTableHead p ∷ (rowResult kind s Body p ++ (breakResult s stop ++ (rowResult kind s Delimiter (after s stop) ++ leave GfmTableHead (endOf (here s (after s stop))) ∷ []))) ≡ headResult kind s p
+  head-is = λ i. enter GfmTable p ∷ enter GfmTableHead p ∷ (rowResult kind s Body p ++ (both (stop-line s p i) ++ (rowResult kind s Delimiter (stop-after s p i) ++ leave GfmTableHead (endOf (here s (stop-after s p i))) ∷ [])))
 
   module _ (k : ℕ) where
     abbrev pub n₁ : ℕ
-    n₁ = k + 1 + 1 + length (rowResult s Body p)
+    n₁ = k + 1 + 1 + length (rowResult kind s Body p)
 
     abbrev pub n₂ : ℕ
-    n₂ = n₁ + 2 + length (rowResult s Delimiter (after s stop))
+    n₂ = n₁ + 2 + length (rowResult kind s Delimiter (after s stop))
 
-    head-slots : n₂ + 1 ≡ k + length (headResult s p)
+    head-slots : n₂ + 1 ≡ k + length (headResult kind s p)
     head-slots =
-        headed-length k (enter GfmTable p) (enter GfmTableHead p) (leave GfmTableHead (endOf (here s (after s stop)))) (rowResult s Body p) (breakResult s stop) (rowResult s Delimiter (after s stop))
+        headed-length k (enter GfmTable p) (enter GfmTableHead p) (leave GfmTableHead (endOf (here s (after s stop)))) (rowResult kind s Body p) (breakResult s stop) (rowResult kind s Delimiter (after s stop))
         ∙ ap (λ (es : List Event). k + length es) head-is
 
     pub head-said : (zs : List Event)
-        → (writtenAt (endOf (here s (after s stop))) (n₂ + 1) ≡ writtenAt (endOf (here s (after s p))) (k + length (headResult s p)))
-        × (set (wrote (n₁ + 2) (rowResult s Delimiter (after s stop)) (wrote n₁ (breakResult s stop) (wrote (k + 1 + 1) (rowResult s Body p) (set (set zs k (enter GfmTable p)) (k + 1) (enter GfmTableHead p))))) n₂ (leave GfmTableHead (endOf (here s (after s stop)))) ≡ wrote k (headResult s p) zs)
+        → (writtenAt (endOf (here s (after s stop))) (n₂ + 1) ≡ writtenAt (endOf (here s (after s p))) (k + length (headResult kind s p)))
+        × (set (wrote (n₁ + 2) (rowResult kind s Delimiter (after s stop)) (wrote n₁ (breakResult s stop) (wrote (k + 1 + 1) (rowResult kind s Body p) (set (set zs k (enter GfmTable p)) (k + 1) (enter GfmTableHead p))))) n₂ (leave GfmTableHead (endOf (here s (after s stop)))) ≡ wrote k (headResult kind s p) zs)
     head-said zs = (
       (λ i. writtenAt (endOf (here s (stop-after s p i))) (head-slots i)),
-      headed k (enter GfmTable p) (enter GfmTableHead p) (leave GfmTableHead (endOf (here s (after s stop)))) (rowResult s Body p) (breakResult s stop) (rowResult s Delimiter (after s stop)) zs
+      headed k (enter GfmTable p) (enter GfmTableHead p) (leave GfmTableHead (endOf (here s (after s stop)))) (rowResult kind s Body p) (breakResult s stop) (rowResult kind s Delimiter (after s stop)) zs
           ∙ ap (λ (es : List Event). wrote k es zs) head-is,
     )
 
-    module _ (h : AtLine s p) (z : lineAt s p .end ≡ 0 → ⊥) (l : Few k (headResult s p)) where
+    module _ (h : AtLine s p) (z : lineAt s p .end ≡ 0 → ⊥) (l : Few k (headResult kind s p)) where
       pub head-small : n₂ + 1 ≤ 4294967295
       head-small = omega (arith, l, head-slots)
 
-      pub head-row : Inside s p × Few (k + 1 + 1) (rowResult s Body p)
+      pub head-row : Inside s p × Few (k + 1 + 1) (rowResult kind s Body p)
       head-row = (h .inside, omega (arith, head-small))
 
       pub head-break : AtEnd s (writtenAt stop n₁) × (n₁ < 1000000000000)
       head-break = (record { inside = body-inside s p (h .inside); rest = stop-rest s p }, omega (arith, head-small))
 
-      pub head-marks : Inside s (after s stop) × Few (n₁ + 2) (rowResult s Delimiter (after s stop))
+      pub head-marks : Inside s (after s stop) × Few (n₁ + 2) (rowResult kind s Delimiter (after s stop))
       head-marks = (rw (stop-after s p) (after-inside s p z (h .inside)), omega (arith, head-small))
 
 -- ## Line ends

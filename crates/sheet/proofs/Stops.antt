@@ -7,7 +7,6 @@ use mathlib.Core.List.{List, [], _∷_}
 use lib.Dec.{eqb}
 use lib.ListN.{drop}
 use Rattle.tokenizer.specs.declared.event.Point.{Point}
-use Rattle.tokenizer.specs.Bytes.{kindOf}
 use Rattle.tokenizer.specs.Points.{past, nextLine}
 use Rattle.tokenizer.specs.Lines.{endAt}
 use Rattle.tokenizer.specs.Places.{Placed, linesFrom, linesPast}
@@ -19,11 +18,12 @@ use Rattle.gfm_table.specs.Raw.{lineEndAt, textRow}
 use Rattle.sheet.specs.Walk.{closes, lineEnd, bodyRows}
 use Rattle.sheet.specs.From.{here}
 
--- body rows are told by the line end before them
-pub rows-same : (l m : Placed) (ls : List Placed) → lineEnd l ≡ lineEnd m → bodyRows kindOf l ls ≡ bodyRows kindOf m ls
-unfolding bodyRows
-rows-same l m [] e = refl
-rows-same l m (k ∷ ls) e = ap (λ (x : Passed). cond (closes kindOf (k .line .body)) [] (record { before = x; row = textRow kindOf (k .at) (k .line .body) } ∷ bodyRows kindOf k ls)) e
+module _ (kind : ℕ → ℕ) where
+  -- body rows are told by the line end before them
+  pub rows-same : (l m : Placed) (ls : List Placed) → lineEnd l ≡ lineEnd m → bodyRows kind l ls ≡ bodyRows kind m ls
+  unfolding bodyRows
+  rows-same l m [] e = refl
+  rows-same l m (k ∷ ls) e = ap (λ (x : Passed). cond (closes kind (k .line .body)) [] (record { before = x; row = textRow kind (k .at) (k .line .body) } ∷ bodyRows kind k ls)) e
 
 module _ (s : List ℕ) (p : Point) where
   abbrev stop : Point

@@ -10,7 +10,6 @@ use lib.Dec.{eqb, leb}
 use lib.ListN.{length}
 use Rattle.tokenizer.specs.declared.event.Point.{Point}
 use Rattle.tokenizer.specs.declared.event.Event.{Event}
-use Rattle.tokenizer.specs.Bytes.{kindOf}
 use Rattle.tokenizer.specs.Points.{past}
 use Rattle.tokenizer.specs.Events.{GfmTableRow, GfmTableDelimiterRow}
 use Rattle.tokenizer.specs.Slots.{slotsOf}
@@ -49,83 +48,84 @@ resolved-in (f ∷ fs) = ap (λ (l : List Event). resolvedTable (f .table) ++ l)
 
 -- ## Rows
 
-is-row : (p : Point) (u : List ℕ) → closes kindOf u ≡ false → IsRow GfmTableRow rowPiece (textRow kindOf p u)
-unfolding closes unindented
-is-row p [] e = absurd (true≢false e)
-is-row p (b ∷ u) e = text-row kindOf p (past p (b ∷ u)) b u
+module _ (kind : ℕ → ℕ) where
+  is-row : (p : Point) (u : List ℕ) → closes kind u ≡ false → IsRow GfmTableRow rowPiece (textRow kind p u)
+  unfolding closes unindented
+  is-row p [] e = absurd (true≢false e)
+  is-row p (b ∷ u) e = text-row kind p (past p (b ∷ u)) b u
 
--- an empty line is no delimiter row
-none : (on : Bool) (l d : Line) → d .body ≡ [] → headRefusal kindOf on false l d ≡ 0 → ⊥
-unfolding marked
-none on l d f e =
-    go (permitted kindOf on (l .body)) (eqb (l .end) 0 || loneDivider (solid (rowPieces kindOf false (l .body)))) (permitted kindOf on []) _ (rw f at e)
-  where
-    go : (a b c : Bool) (n : ℕ) → _≡_ {A = ℕ} (cond (not a) 3 (cond b 4 (cond (not (c && false)) 6 n))) 0 → ⊥
-    go false b c n e = omega arith
-    go true true c n e = omega arith
-    go true false true n e = omega arith
-    go true false false n e = omega arith
+  -- an empty line is no delimiter row
+  none : (on : Bool) (l d : Line) → d .body ≡ [] → headRefusal kind on false l d ≡ 0 → ⊥
+  unfolding marked
+  none on l d f e =
+      go (permitted kind on (l .body)) (eqb (l .end) 0 || loneDivider (solid (rowPieces kind false (l .body)))) (permitted kind on []) _ (rw f at e)
+    where
+      go : (a b c : Bool) (n : ℕ) → _≡_ {A = ℕ} (cond (not a) 3 (cond b 4 (cond (not (c && false)) 6 n))) 0 → ⊥
+      go false b c n e = omega arith
+      go true true c n e = omega arith
+      go true false true n e = omega arith
+      go true false false n e = omega arith
 
-delimits : (on : Bool) (l d : Line) (p : Point) → headRefusal kindOf on false l d ≡ 0 → IsRow GfmTableDelimiterRow delimiterPiece (delimiterRow kindOf p (d .body))
-delimits on l d p e = go (d .body) refl
-  where
-    go : (u : List ℕ) → d .body ≡ u → IsRow GfmTableDelimiterRow delimiterPiece (delimiterRow kindOf p u)
-    go [] f = absurd (none on l d f e)
-    go (b ∷ u) f = delimiter-row kindOf p (past p (b ∷ u)) b u
+  delimits : (on : Bool) (l d : Line) (p : Point) → headRefusal kind on false l d ≡ 0 → IsRow GfmTableDelimiterRow delimiterPiece (delimiterRow kind p (d .body))
+  delimits on l d p e = go (d .body) refl
+    where
+      go : (u : List ℕ) → d .body ≡ u → IsRow GfmTableDelimiterRow delimiterPiece (delimiterRow kind p u)
+      go [] f = absurd (none on l d f e)
+      go (b ∷ u) f = delimiter-row kind p (past p (b ∷ u)) b u
 
-rows-are : (l : Placed) (ls : List Placed) → AreRows (bodyRows kindOf l ls)
-unfolding bodyRows
-rows-are l [] = AreRows.none
-rows-are l (m ∷ ls) = go (closes kindOf (m .line .body)) refl (rows-are m ls)
-  where
-    go : (t : Bool) → closes kindOf (m .line .body) ≡ t → AreRows (bodyRows kindOf m ls) → AreRows (cond t [] (record { before = lineEnd l; row = textRow kindOf (m .at) (m .line .body) } ∷ bodyRows kindOf m ls))
-    go true e r = AreRows.none
-    go false e r = AreRows.row (record { enter = refl; leave = refl }) (is-row (m .at) (m .line .body) e) r
+  rows-are : (l : Placed) (ls : List Placed) → AreRows (bodyRows kind l ls)
+  unfolding bodyRows
+  rows-are l [] = AreRows.none
+  rows-are l (m ∷ ls) = go (closes kind (m .line .body)) refl (rows-are m ls)
+    where
+      go : (t : Bool) → closes kind (m .line .body) ≡ t → AreRows (bodyRows kind m ls) → AreRows (cond t [] (record { before = lineEnd l; row = textRow kind (m .at) (m .line .body) } ∷ bodyRows kind m ls))
+      go true e r = AreRows.none
+      go false e r = AreRows.row (record { enter = refl; leave = refl }) (is-row (m .at) (m .line .body) e) r
 
--- ## Tables
+  -- ## Tables
 
-is-table : (on : Bool) (l d : Placed) (ls : List Placed) → opens kindOf on l d ≡ true → IsTable (tableOf kindOf l d ls)
-is-table on l d ls o =
-    let b = both-true (not (closes kindOf (l .line .body))) (eqb (headRefusal kindOf on false (l .line) (d .line)) 0) o in
-    let r = eqb-true (headRefusal kindOf on false (l .line) (d .line)) 0 (b .1) in
-    record {
-      enter = refl;
-      head = is-row (l .at) (l .line .body) (not-true (closes kindOf (l .line .body)) (b .0));
-      between = record { enter = refl; leave = refl };
-      delimiter = delimits on (l .line) (d .line) (d .at) r;
-      leave = refl;
-      body = rows-are d ls;
-    }
+  is-table : (on : Bool) (l d : Placed) (ls : List Placed) → opens kind on l d ≡ true → IsTable (tableOf kind l d ls)
+  is-table on l d ls o =
+      let b = both-true (not (closes kind (l .line .body))) (eqb (headRefusal kind on false (l .line) (d .line)) 0) o in
+      let r = eqb-true (headRefusal kind on false (l .line) (d .line)) 0 (b .1) in
+      record {
+        enter = refl;
+        head = is-row (l .at) (l .line .body) (not-true (closes kind (l .line .body)) (b .0));
+        between = record { enter = refl; leave = refl };
+        delimiter = delimits on (l .line) (d .line) (d .at) r;
+        leave = refl;
+        body = rows-are d ls;
+      }
 
-module _ (on : Bool) where
-  mutual
-    unfolding heads tablesIn
+  module _ (on : Bool) where
+    mutual
+      unfolding heads tablesIn
 
-    heads-are : (ls : List Placed) → AreTables (tablesIn (heads kindOf on ls))
-    heads-are [] = AreTables.none
-    heads-are (l ∷ []) = AreTables.none
-    heads-are (l ∷ d ∷ ls) = test (opens kindOf on l d) (λ e. rw e (AreTables.table (is-table on l d ls e) (rows-on ls))) (λ e. rw e (heads-are (d ∷ ls)))
+      heads-are : (ls : List Placed) → AreTables (tablesIn (heads kind on ls))
+      heads-are [] = AreTables.none
+      heads-are (l ∷ []) = AreTables.none
+      heads-are (l ∷ d ∷ ls) = test (opens kind on l d) (λ e. rw e (AreTables.table (is-table on l d ls e) (rows-on ls))) (λ e. rw e (heads-are (d ∷ ls)))
 
-    rows-on : (ls : List Placed) → AreTables (tablesIn (rows kindOf on ls))
-    rows-on [] = AreTables.none
-    rows-on (l ∷ ls) = test (closes kindOf (l .line .body)) (λ e. rw e (heads-are ls)) (λ e. rw e (rows-on ls))
+      rows-on : (ls : List Placed) → AreTables (tablesIn (rows kind on ls))
+      rows-on [] = AreTables.none
+      rows-on (l ∷ ls) = test (closes kind (l .line .body)) (λ e. rw e (heads-are ls)) (λ e. rw e (rows-on ls))
 
-  -- ## What resolving answers
+    -- ## What resolving answers
 
-  module _ (s : List ℕ) where
-    abbrev fs : List Found
-    fs = tables kindOf on s
+    module _ (s : List ℕ) where
+      abbrev fs : List Found
+      fs = tables kind on s
 
-    pub raw-accepted : accepts (rawOf fs) ≡ true
-    raw-accepted = ap accepts (raw-in fs) ∙ accepts-raw (heads-are _)
+      pub raw-accepted : accepts (rawOf fs) ≡ true
+      raw-accepted = ap accepts (raw-in fs) ∙ accepts-raw (heads-are _)
 
-    pub raw-resolved : resolvedList (rawOf fs) ≡ resolvedOf fs
-    raw-resolved = ap resolvedList (raw-in fs) ∙ ap resolvedTables (tables-of (heads-are _)) ∙ sym (resolved-in fs)
+      pub raw-resolved : resolvedList (rawOf fs) ≡ resolvedOf fs
+      raw-resolved = ap resolvedList (raw-in fs) ∙ ap resolvedTables (tables-of (heads-are _)) ∙ sym (resolved-in fs)
 
-    pub answer-is : (m : ℕ) → resolveAnswer (rawOf fs) m ≡ cond (leb (length (resolvedOf fs)) m) (Accepted (length (resolvedOf fs))) (Refused 12)
-    unfolding resolveAnswer
-    answer-is m = rw (raw-accepted, raw-resolved)
+      pub answer-is : (m : ℕ) → resolveAnswer (rawOf fs) m ≡ cond (leb (length (resolvedOf fs)) m) (Accepted (length (resolvedOf fs))) (Refused 12)
+      unfolding resolveAnswer
+      answer-is m = rw (raw-accepted, raw-resolved)
 
-    pub slots-are : (m : ℕ) → resolveSlots (rawOf fs) m ≡ slotsOf m (cond (leb (length (resolvedOf fs)) m) (resolvedOf fs) [])
-    unfolding resolveSlots
-    slots-are m = rw (raw-accepted, raw-resolved)
+      pub slots-are : (m : ℕ) → resolveSlots (rawOf fs) m ≡ slotsOf m (cond (leb (length (resolvedOf fs)) m) (resolvedOf fs) [])
+      unfolding resolveSlots
+      slots-are m = rw (raw-accepted, raw-resolved)

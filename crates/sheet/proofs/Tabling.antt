@@ -6,15 +6,16 @@ use mathlib.Core.Bool.{Bool, true, false, cond, true≢false}
 use mathlib.Core.List.{List, [], _∷_, _++_}
 use mathlib.Core.WellFounded.{WellFounded, InvImage·wf}
 use native.Mathlib.Omega.{arith}
-use borrow.Author.Tests.{ltb-false}
-use lib.Dec.{ltb}
+use borrow.Author.Tests.{eqb-true, ltb-false}
+use lib.Dec.{eqb, ltb}
 use lib.ListN.{length, length-append}
 use lib.WfN.{Nat·lt-wfRel}
 use Rattle.tokenizer.specs.declared.event.Event.{Event}
 use Rattle.tokenizer.specs.Slots.{wrote}
 use Rattle.tokenizer.specs.Places.{linesFrom, firstPoint}
-use Rattle.tokenizer.specs.Bytes.{kindOf}
+use Rattle.tokenizer.specs.Bytes.{kindIn, kindsRefusal, Passes}
 use Rattle.tokenizer.specs.Moves.{after}
+use Rattle.tokenizer.proofs.KindTables.{passes}
 use Rattle.tokenizer.proofs.Writing.{wrote-none, wrote-append}
 use Rattle.edit_map.specs.Tables.{Table, rawTable, resolvedTable}
 use Rattle.sheet.specs.declared.spans.Span.{Span}
@@ -53,23 +54,27 @@ module _ {S : Type 0} (OK : S → List Found → Type 0) (Inv : S → List Found
 
 -- ## What is read
 
-module _ (s : List ℕ) (on : Bool) where
-  -- a sheet with a table is not too long
-  pub read-short : 0 < length (tablesRead s on) → length s ≤ 65536
-  read-short = go (ltb 65536 (length s)) refl
+module _ (s t : List ℕ) (on : Bool) where
+  -- what holds of the tables, where none or all of them are read
+  of-read : (P : List Found → Type 0) → P [] → (kindsRefusal t ≡ 0 → length s ≤ 65536 → P (tables (kindIn t) on s)) → P (tablesRead s t on)
+  of-read P none all = go (eqb (kindsRefusal t) 0) (ltb 65536 (length s)) refl refl
     where
-      go : (t : Bool) → ltb 65536 (length s) ≡ t → 0 < length (cond t [] (tables kindOf on s)) → length s ≤ 65536
-      go true e h = absurd (omega (arith, h))
-      go false e h = ltb-false 65536 (length s) e
+      go : (a b : Bool) → eqb (kindsRefusal t) 0 ≡ a → ltb 65536 (length s) ≡ b → P (cond a (cond b [] (tables (kindIn t) on s)) [])
+      go false b e f = none
+      go true true e f = none
+      go true false e f = all (eqb-true (kindsRefusal t) 0 e) (ltb-false 65536 (length s) f)
 
-  -- and what is counted of it is little
-  pub read-few : tally (tablesRead s on) ≤ 1000000
+  -- a sheet of which a table is read is not too long, and the table of kinds passes
+  pub read-short : 0 < length (tablesRead s t on) → length s ≤ 65536
+  read-short = of-read (λ (fs : List Found). 0 < length fs → length s ≤ 65536) (λ h. absurd (omega (arith, h))) (λ e l h. l)
+
+  pub read-passes : 0 < length (tablesRead s t on) → Passes t
+  read-passes = of-read (λ (fs : List Found). 0 < length fs → Passes t) (λ h. absurd (omega (arith, h))) (λ e l h. passes t e)
+
+  -- what is counted of it is little
+  pub read-few : tally (tablesRead s t on) ≤ 1000000
   unfolding rawOf alignedOf
-  read-few = go (ltb 65536 (length s)) refl
-    where
-      go : (t : Bool) → ltb 65536 (length s) ≡ t → tally (cond t [] (tables kindOf on s)) ≤ 1000000
-      go true e = omega arith
-      go false e = omega (arith, from-tally s on (firstPoint s), ltb-false 65536 (length s) e)
+  read-few = of-read (λ (fs : List Found). tally fs ≤ 1000000) (omega arith) (λ e l. omega (arith, from-tally (kindIn t) s on (firstPoint s), l))
 
 -- there are at most twice as many result events
 results-few : (fs : List Found) → length (resolvedOf fs) ≤ 2 * length (rawOf fs)
@@ -86,13 +91,13 @@ results-few (f ∷ fs) =
 
 -- ## What the loop does
 
-module _ (s : List ℕ) (on : Bool) where
+module _ (s t : List ℕ) (on : Bool) where
   abbrev all : List Found
-  all = tablesRead s on
+  all = tablesRead s t on
 
   -- the tables fs are left
   pub record Facts (c : Tabled) (fs : List Found) : Type 0 where
-    pub comes : FirstTable s on (c .next) fs
+    pub comes : FirstTable (kindIn t) s on (c .next) fs
     pub tables : c .counts .tables + length fs ≡ length all
     pub raw : c .counts .raw + length (rawOf fs) ≡ length (rawOf all)
     pub results : c .counts .results + length (resolvedOf fs) ≡ length (resolvedOf all)
@@ -109,7 +114,7 @@ module _ (s : List ℕ) (on : Bool) where
   abbrev pub none : Counts
   none = record { tables = 0; raw = 0; results = 0; aligned = 0 }
 
-  pub begins-good : (c : Tabled) → FirstTable s on (c .next) all → c .counts ≡ none → Facts c all
+  pub begins-good : (c : Tabled) → FirstTable (kindIn t) s on (c .next) all → c .counts ≡ none → Facts c all
   begins-good c h e = rw e (record { comes = h; tables = omega arith; raw = omega arith; results = omega arith; aligned = omega arith })
 
   pub begins-told : (ys ms : List Event) (ks : List ℕ) (c : Tabled) → c .counts ≡ none → Told ys ms ks c all ys ms ks
@@ -120,24 +125,24 @@ module _ (s : List ℕ) (on : Bool) where
     pub f : Found
     pub others : List Found
     pub is : fs ≡ f ∷ others
-    pub span : Spanned s on (c .next) f others
+    pub span : Spanned (kindIn t) s on (c .next) f others
 
-  pub next : (c : Tabled) (fs : List Found) → FirstTable s on (c .next) fs → c .next .found ≡ true → Next c fs
+  pub next : (c : Tabled) (fs : List Found) → FirstTable (kindIn t) s on (c .next) fs → c .next .found ≡ true → Next c fs
   next c [] h t = absurd (true≢false (sym t ∙ h))
   next c (f ∷ fs) h t = record { f = f; others = fs; is = refl; span = h }
 
   module _ (c : Tabled) (fs : List Found) (g : Facts c fs) (k : Next c fs) where
     abbrev pub table : Table
-    table = tableAt s (headOf (c .next))
+    table = tableAt (kindIn t) s (headOf (c .next))
 
     table-is : k .f .table ≡ table
     table-is = ap {B = Table} (λ (x : Found). x .table) (k .span .table)
 
     abbrev pub its : List ℕ
-    its = lineAlignments s (c .next .delimiter)
+    its = lineAlignments (kindIn t) s (c .next .delimiter)
 
     pub its-are : k .f .aligned ≡ its
-    its-are = ap {B = List ℕ} (λ (x : Found). x .aligned) (k .span .table) ∙ ap (lineAlignments s) (sym (k .span .delimiter))
+    its-are = ap {B = List ℕ} (λ (x : Found). x .aligned) (k .span .table) ∙ ap (lineAlignments (kindIn t) s) (sym (k .span .delimiter))
 
     raw-is : rawOf fs ≡ rawTable table ++ rawOf (k .others)
     unfolding rawOf
@@ -163,25 +168,31 @@ module _ (s : List ℕ) (on : Bool) where
     tables-long : length fs ≡ suc (length (k .others))
     tables-long = ap {B = ℕ} length (k .is)
 
+    some : 0 < length all
+    some = omega (arith, g .tables, tables-long)
+
     pub short : length s ≤ 65536
-    short = read-short s on (omega (arith, g .tables, tables-long))
+    short = read-short s t on some
+
+    pub passing : Passes t
+    passing = read-passes s t on some
 
     -- the events of the table have slots with small numbers
     pub raw-few : c .counts .raw + length (rawTable table) ≤ 4294967295
-    raw-few = omega (arith, g .raw, raw-long, read-few s on)
+    raw-few = omega (arith, g .raw, raw-long, read-few s t on)
 
     pub resolved-few : c .counts .results + length (resolvedTable table) ≤ 4294967295
-    resolved-few = omega (arith, g .results, resolved-long, results-few all, read-few s on)
+    resolved-few = omega (arith, g .results, resolved-long, results-few all, read-few s t on)
 
     -- and so have its alignments
     pub cells-are : c .next .cells ≡ length its
     cells-are = k .span .cells ∙ ap {B = ℕ} length its-are
 
     pub aligned-few : c .counts .aligned + c .next .cells < 1000000000000
-    aligned-few = omega (arith, g .aligned, aligned-long, cells-are, read-few s on)
+    aligned-few = omega (arith, g .aligned, aligned-long, cells-are, read-few s t on)
 
     pub tables-few : c .counts .tables < 1000000000000
-    tables-few = omega (arith, g .tables, tables-long, read-few s on)
+    tables-few = omega (arith, g .tables, tables-long, read-few s t on)
 
     pub delimiter-within : c .next .delimiter ≤ length s
     delimiter-within = omega (arith, k .span .delimiter, after-line s (headOf (c .next)) (k .span .ended) (k .span .at .inside) .inside .within)
@@ -190,12 +201,12 @@ module _ (s : List ℕ) (on : Bool) where
     abbrev pub onward : Counts
     onward = oneMore (c .counts) (c .counts .raw + length (rawTable table)) (c .counts .results + length (resolvedTable table)) (c .next .cells)
 
-    module _ (d : Tabled) (h : FirstTable s on (d .next) (heads kindOf on (linesFrom s (startOf (c .next .next))))) (e : d .counts ≡ onward) where
+    module _ (d : Tabled) (h : FirstTable (kindIn t) s on (d .next) (heads (kindIn t) on (linesFrom s (startOf (c .next .next))))) (e : d .counts ≡ onward) where
       pub goes-good : Facts d (k .others)
       goes-good =
           rw e
           (record {
-            comes = subst (FirstTable s on (d .next)) (sym (k .span .tables)) h;
+            comes = subst (FirstTable (kindIn t) s on (d .next)) (sym (k .span .tables)) h;
             tables = omega (arith, g .tables, tables-long);
             raw = omega (arith, g .raw, raw-long);
             results = omega (arith, g .results, resolved-long);
@@ -221,7 +232,7 @@ module _ (s : List ℕ) (on : Bool) where
     fewer = omega (arith, tables-long)
 
   -- none is left
-  left-none : (c : Tabled) (fs : List Found) → FirstTable s on (c .next) fs → c .next .found ≡ false → fs ≡ []
+  left-none : (c : Tabled) (fs : List Found) → FirstTable (kindIn t) s on (c .next) fs → c .next .found ≡ false → fs ≡ []
   left-none c [] h t = refl
   left-none c (f ∷ fs) h t = absurd (true≢false (sym (h .found) ∙ t))
 

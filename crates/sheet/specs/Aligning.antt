@@ -5,7 +5,6 @@ use mathlib.Core.List.{List, [], _∷_, _++_}
 use mathlib.Core.Bool.{Bool, cond, _&&_}
 use lib.Dec.{eqb, leb}
 use lib.ListN.{length, take, drop, replicate}
-use Rattle.tokenizer.specs.Bytes.{kindOf}
 use Rattle.tokenizer.specs.Lines.{lineBody, isEmpty}
 use Rattle.gfm_table.specs.Heads.{stretches, trimmed, untrailed, values, alignment, alignments}
 use Rattle.gfm_table.specs.Delimiters.{stretch, written}
@@ -16,13 +15,14 @@ use Rattle.sheet.specs.declared.align.Mark.{Mark}
 abbrev pub lineFrom : List ℕ → ℕ → List ℕ
 lineFrom s i = lineBody (drop i s)
 
--- the alignments of the delimiter line at a place
-abbrev pub lineAlignments : List ℕ → ℕ → List ℕ
-lineAlignments s i = alignments kindOf (values kindOf (lineFrom s i))
+module _ (kind : ℕ → ℕ) where
+  -- the alignments of the delimiter line at a place
+  abbrev pub lineAlignments : List ℕ → ℕ → List ℕ
+  lineAlignments s i = alignments kind (values kind (lineFrom s i))
 
--- the alignments of the stretches from a place on, none for a last one that is empty
-abbrev pub alignsFrom : List ℕ → ℕ → List ℕ
-alignsFrom s i = alignments kindOf (untrailed (trimmed kindOf (stretches kindOf (lineFrom s i))))
+  -- the alignments of the stretches from a place on, none for a last one that is empty
+  abbrev pub alignsFrom : List ℕ → ℕ → List ℕ
+  alignsFrom s i = alignments kind (untrailed (trimmed kind (stretches kind (lineFrom s i))))
 
 -- ## The ends of a stretch: the kinds of its first and last byte that is no whitespace, and where it ends
 
@@ -30,24 +30,26 @@ alignsFrom s i = alignments kindOf (untrailed (trimmed kindOf (stretches kindOf 
 abbrev pub endsOver : Ends → ℕ → Ends
 endsOver e k = record { first = cond (eqb (e .first) 1) k (e .first); last = cond (eqb k 1) (e .last) k; end = e .end + 1 }
 
--- with more bytes
-unfoldable pub endsPast : Ends → List ℕ → Ends
-endsPast e [] = e
-endsPast e (b ∷ u) = endsPast (endsOver e (kindOf b)) u
+module _ (kind : ℕ → ℕ) where
+  -- with more bytes
+  unfoldable pub endsPast : Ends → List ℕ → Ends
+  endsPast e [] = e
+  endsPast e (b ∷ u) = endsPast (endsOver e (kind b)) u
 
--- those of the first stretch of u, which starts at i
-abbrev pub scanned : ℕ → List ℕ → Ends
-scanned i u = endsPast (record { first = 1; last = 1; end = i }) (stretch kindOf u)
+  -- those of the first stretch of u, which starts at i
+  abbrev pub scanned : ℕ → List ℕ → Ends
+  scanned i u = endsPast (record { first = 1; last = 1; end = i }) (stretch kind u)
 
 -- the alignment that the kinds of a value's first and last byte tell
 abbrev pub alignBy : ℕ → ℕ → ℕ
 alignBy f l = cond (eqb f 6) (cond (eqb l 6) 4 2) (cond (eqb l 6) 3 1)
 
--- the first stretch of a line, from a place on
-pub record Marked (u : List ℕ) (i : ℕ) (m : Mark) : Type 0 where
-  pub end : m .end ≡ i + length (stretch kindOf u)
-  pub empty : m .empty ≡ isEmpty (written u)
-  pub align : m .align ≡ alignment kindOf (written u)
+module _ (kind : ℕ → ℕ) where
+  -- the first stretch of a line, from a place on
+  pub record Marked (u : List ℕ) (i : ℕ) (m : Mark) : Type 0 where
+    pub end : m .end ≡ i + length (stretch kind u)
+    pub empty : m .empty ≡ isEmpty (written kind u)
+    pub align : m .align ≡ alignment kind (written kind u)
 
 -- ## Slots
 

@@ -9,7 +9,7 @@ use lib.Dec.{eqb, leb, ltb}
 use lib.ListN.{length, drop}
 use Rattle.tokenizer.specs.declared.event.Point.{Point}
 use Rattle.tokenizer.specs.declared.event.Event.{Event}
-use Rattle.tokenizer.specs.Bytes.{isEnd}
+use Rattle.tokenizer.specs.Bytes.{isEnd, kindIn}
 use Rattle.tokenizer.specs.Events.{SpaceOrTab, LineEnding, Data, GfmTableRow, GfmTableCell, GfmTableCellDivider, GfmTableDelimiterRow, GfmTableDelimiterMarker, GfmTableDelimiterCellValue, GfmTableDelimiterFiller, pointOf}
 use Rattle.tokenizer.specs.Lines.{bom, firstStart, startsLine, lineNumber, blank}
 use Rattle.tokenizer.specs.Places.{Placed, placedLines}
@@ -263,9 +263,9 @@ pub data Read (kind : ℕ → ℕ) (on : Bool) : List Placed → List Found → 
 abbrev pub Walked : (ℕ → ℕ) → Type 0
 Walked kind = (on : Bool) (s : List ℕ) (fs : List Found) → (fs ≡ tables kind on s) ↔ Read kind on (placedLines s) fs
 
--- where `>` is of no kind of its own, a remark is no delimiter line either: no line of a table is one
-abbrev pub Unquoted : (ℕ → ℕ) → Type 0
-Unquoted kind = kind 62 ≡ 0 → (on : Bool) (l d : Placed) → opens kind on l d ≡ true → remark kind (d .line .body) ≡ false
+-- no line of a table is a remark: a head line is none, and neither is a delimiter line
+abbrev pub NoRemark : (ℕ → ℕ) → Type 0
+NoRemark kind = (on : Bool) (l d : Placed) → opens kind on l d ≡ true → remark kind (d .line .body) ≡ false
 
 -- ## The whole demand
 
@@ -277,5 +277,10 @@ pub record Demand (kind : ℕ → ℕ) : Type 0 where
   pub starts : Starts
   pub told : Told kind
   pub walked : Walked kind
-  pub unquoted : Unquoted kind
+  pub unquoted : kind 62 ≡ 0 → NoRemark kind
   pub bomPassed : BomPassed kind
+
+-- by a table of kinds that passes: the demand, and its last sentence without the condition
+pub record DemandBy (t : List ℕ) : Type 0 where
+  pub demand : Demand (kindIn t)
+  pub noRemark : NoRemark (kindIn t)

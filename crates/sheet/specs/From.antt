@@ -6,7 +6,6 @@ use mathlib.Core.Bool.{Bool, true, false, cond, _&&_, not}
 use lib.Dec.{eqb}
 use lib.ListN.{length, drop}
 use Rattle.tokenizer.specs.declared.event.Point.{Point}
-use Rattle.tokenizer.specs.Bytes.{kindOf}
 use Rattle.tokenizer.specs.Lines.{lineBody}
 use Rattle.tokenizer.specs.Places.{Placed, linesFrom, linesPast}
 use Rattle.tokenizer.specs.Moves.{lineAt, after, Inside}
@@ -25,38 +24,40 @@ pub record AtLine (s : List ℕ) (p : Point) : Type 0 where
 abbrev pub here : List ℕ → Point → Placed
 here s p = record { at = p; line = lineAt s p }
 
--- the number n, where the line at the place i has n cells and more than a lone divider; otherwise 0
-abbrev pub columnsIf : List ℕ → ℕ → ℕ → ℕ
-columnsIf s i n =
-    let u = lineBody (drop i s) in
-    cond (not (loneDivider (solid (rowPieces kindOf false u))) && eqb n (headCells kindOf u)) n 0
+module _ (kind : ℕ → ℕ) where
+  -- the number n, where the line at the place i has n cells and more than a lone divider; otherwise 0
+  abbrev pub columnsIf : List ℕ → ℕ → ℕ → ℕ
+  columnsIf s i n =
+      let u = lineBody (drop i s) in
+      cond (not (loneDivider (solid (rowPieces kind false u))) && eqb n (headCells kind u)) n 0
 
--- the columns of the head whose line starts at the place i and whose delimiter row at d, 0 where they are no head
-abbrev pub columnsOf : List ℕ → Bool → ℕ → ℕ → ℕ
-columnsOf s on i d =
-    let u = lineBody (drop i s) in
-    let v = lineBody (drop d s) in
-    cond (isDelimiterRow kindOf on v && (permitted kindOf on u && not (closes kindOf u))) (columnsIf s i (length (values kindOf v))) 0
+  -- the columns of the head whose line starts at the place i and whose delimiter row at d, 0 where they are no head
+  abbrev pub columnsOf : List ℕ → Bool → ℕ → ℕ → ℕ
+  columnsOf s on i d =
+      let u = lineBody (drop i s) in
+      let v = lineBody (drop d s) in
+      cond (isDelimiterRow kind on v && (permitted kind on u && not (closes kind u))) (columnsIf s i (length (values kind v))) 0
 
 -- where a head's line starts
 abbrev pub openingPoint : Opening → Point
 openingPoint o = pointIn (o .line) (o .at) 1
 
--- the tables from the line p on begin with the one that o opens
-pub record Opens (s : List ℕ) (on : Bool) (p : Point) (o : Opening) : Type 0 where
-  pub at : AtLine s (openingPoint o)
-  pub ended : lineAt s (openingPoint o) .end ≡ 0 → ⊥
-  pub delimiter : o .delimiter ≡ after s (openingPoint o) .index
-  pub columns : o .columns ≡ length (values kindOf (lineBody (drop (o .delimiter) s)))
-  pub tables :
-      heads kindOf on (linesFrom s p)
-      ≡ found kindOf on (here s (openingPoint o)) (here s (after s (openingPoint o))) (linesPast s (after s (openingPoint o))) ∷ rows kindOf on (linesPast s (after s (openingPoint o)))
+module _ (kind : ℕ → ℕ) where
+  -- the tables from the line p on begin with the one that o opens
+  pub record Opens (s : List ℕ) (on : Bool) (p : Point) (o : Opening) : Type 0 where
+    pub at : AtLine s (openingPoint o)
+    pub ended : lineAt s (openingPoint o) .end ≡ 0 → ⊥
+    pub delimiter : o .delimiter ≡ after s (openingPoint o) .index
+    pub columns : o .columns ≡ length (values kind (lineBody (drop (o .delimiter) s)))
+    pub tables :
+        heads kind on (linesFrom s p)
+        ≡ found kind on (here s (openingPoint o)) (here s (after s (openingPoint o))) (linesPast s (after s (openingPoint o))) ∷ rows kind on (linesPast s (after s (openingPoint o)))
 
--- what is found, if a head is
-abbrev pub FindsIf : Bool → List ℕ → Bool → Point → Opening → Type 0
-FindsIf true s on p o = Opens s on p o
-FindsIf false s on p o = heads kindOf on (linesFrom s p) ≡ []
+  -- what is found, if a head is
+  abbrev pub FindsIf : Bool → List ℕ → Bool → Point → Opening → Type 0
+  FindsIf true s on p o = Opens s on p o
+  FindsIf false s on p o = heads kind on (linesFrom s p) ≡ []
 
--- the first head from a line on, or that there is none
-abbrev pub Finds : List ℕ → Bool → Point → Opening → Type 0
-Finds s on p o = FindsIf (o .found) s on p o
+  -- the first head from a line on, or that there is none
+  abbrev pub Finds : List ℕ → Bool → Point → Opening → Type 0
+  Finds s on p o = FindsIf (o .found) s on p o

@@ -5,7 +5,6 @@ use mathlib.Core.List.{List, [], _++_}
 use lib.ListN.{length}
 use Rattle.tokenizer.specs.declared.event.Point.{Point}
 use Rattle.tokenizer.specs.declared.event.Event.{Event}
-use Rattle.tokenizer.specs.Bytes.{kindOf}
 use Rattle.tokenizer.specs.Places.{linesPast}
 use Rattle.tokenizer.specs.Moves.{restOf, lineAt, after, Inside}
 use Rattle.gfm_table.specs.declared.stream.Part.{Part}
@@ -35,10 +34,10 @@ pub record AtEnd (s : List ℕ) (w : Written) : Type 0 where
 abbrev pub Few : ℕ → List Event → Type 0
 Few k es = k + length es ≤ 4294967295
 
-module _ (s : List ℕ) where
+module _ (kind : ℕ → ℕ) (s : List ℕ) where
   -- the events of a row
   abbrev pub rowEvents : Part → Point → List Event
-  rowEvents t p = rawRow (rowAt (nameOf t) (piecesOf t) p (restOf s p))
+  rowEvents t p = rawRow (rowAt (nameOf t) (piecesOf kind t) p (restOf s p))
 
   -- those of a line's end and of the row of the next line
   abbrev pub nextEvents : Part → Point → List Event
@@ -46,12 +45,12 @@ module _ (s : List ℕ) where
 
   -- those of a head
   abbrev pub headsEvents : Point → List Event
-  headsEvents p = headEvents kindOf p (lineAt s p) (lineAt s (after s p))
+  headsEvents p = headEvents kind p (lineAt s p) (lineAt s (after s p))
 
   -- those of the body rows after the line of a point
   abbrev pub rowsAfter : Point → List Event
-  rowsAfter p = rawBody (bodyRows kindOf (here s p) (linesPast s p))
+  rowsAfter p = rawBody (bodyRows kind (here s p) (linesPast s p))
 
   -- the table whose head line starts at a point
   abbrev pub tableAt : Point → Table
-  tableAt p = tableOf kindOf (here s p) (here s (after s p)) (linesPast s (after s p))
+  tableAt p = tableOf kind (here s p) (here s (after s p)) (linesPast s (after s p))

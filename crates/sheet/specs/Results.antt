@@ -4,7 +4,6 @@ use mathlib.Core.List.{List, [], _∷_, _++_}
 use mathlib.Core.Bool.{Bool, cond}
 use Rattle.tokenizer.specs.declared.event.Point.{Point}
 use Rattle.tokenizer.specs.declared.event.Event.{Event}
-use Rattle.tokenizer.specs.Bytes.{kindOf}
 use Rattle.tokenizer.specs.Events.{GfmTable, GfmTableBody, GfmTableHead, enter, leave, pointOf}
 use Rattle.tokenizer.specs.Places.{endOf, linesPast}
 use Rattle.tokenizer.specs.Slots.{eventIf}
@@ -19,24 +18,24 @@ use Rattle.edit_map.specs.CellRows.{cellOf, insideOf}
 use Rattle.sheet.specs.Walk.{lineEnd, bodyRows}
 use Rattle.sheet.specs.From.{here}
 
-module _ (s : List ℕ) where
+-- the result events of the end of the line of a point
+abbrev pub breakResult : List ℕ → Point → List Event
+breakResult s p = both (lineEnd (here s p))
+
+module _ (kind : ℕ → ℕ) (s : List ℕ) where
   -- the result events of the row at a point
   abbrev pub rowResult : Part → Point → List Event
-  rowResult t p = resolvedRow (cellOf t) (insideOf t) (rowAt (nameOf t) (piecesOf t) p (restOf s p))
-
-  -- of the end of the line of a point
-  abbrev pub breakResult : Point → List Event
-  breakResult p = both (lineEnd (here s p))
+  rowResult t p = resolvedRow (cellOf t) (insideOf t) (rowAt (nameOf t) (piecesOf kind t) p (restOf s p))
 
   -- of the table whose head line starts at a point, up to its head's exit
   abbrev pub headResult : Point → List Event
   headResult p =
-      enter GfmTable p ∷ enter GfmTableHead p ∷ (rowResult Body p ++ (breakResult p
+      enter GfmTable p ∷ enter GfmTableHead p ∷ (rowResult Body p ++ (breakResult s p
       ++ (rowResult Delimiter (after s p) ++ leave GfmTableHead (endOf (here s (after s p))) ∷ [])))
 
   -- the body rows after the line of a point
   abbrev pub bodyAfter : Point → List BodyRow
-  bodyAfter p = bodyRows kindOf (here s p) (linesPast s p)
+  bodyAfter p = bodyRows kind (here s p) (linesPast s p)
 
 -- of body rows, where the body is entered before the first of them
 abbrev pub openedRows : List BodyRow → List Event

@@ -2,16 +2,16 @@
 use Prim.Native.Nat.{ℕ, _+_}
 use mathlib.Core.List.{List, [], _∷_}
 use mathlib.Core.Bool.{Bool, cond}
-use lib.Dec.{ltb}
+use lib.Dec.{eqb, ltb}
 use lib.ListN.{length}
-use Rattle.tokenizer.specs.Bytes.{kindOf}
+use Rattle.tokenizer.specs.Bytes.{kindIn, kindsRefusal}
 use Rattle.sheet.specs.declared.write.Counts.{Counts}
 use Rattle.sheet.specs.Walk.{Found, tables, rawOf, resolvedOf, alignedOf}
 use Rattle.sheet.specs.Aligning.{filledIf}
 
--- the tables that are read: none of a sheet that is too long
-abbrev pub tablesRead : List ℕ → Bool → List Found
-tablesRead s on = cond (ltb 65536 (length s)) [] (tables kindOf on s)
+-- the tables of the sheet s that are read by the table of kinds t: none where t is refused or the sheet is too long
+abbrev pub tablesRead : List ℕ → List ℕ → Bool → List Found
+tablesRead s t on = cond (eqb (kindsRefusal t) 0) (cond (ltb 65536 (length s)) [] (tables (kindIn t) on s)) []
 
 -- how many tables, raw events, result events and alignments there are
 abbrev pub countsOf : List Found → Counts

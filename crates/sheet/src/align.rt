@@ -5,6 +5,7 @@ ghost use mathlib.Core.Bool.{cond};
 ghost use Prim.Native.Nat.{_≤_, _<_, _+_};
 ghost use lib.Dec.{eqb};
 ghost use lib.ListN.{length};
+ghost use Rattle.tokenizer.specs.Bytes.{kindIn, Passes};
 ghost use Rattle.sheet.specs.Aligning.{lineFrom, alignsFrom, lineAlignments, endsOver, scanned, alignBy, filled, filledIf, zeroedFrom, Marked};
 
 // One stretch of a delimiter row: the kinds of its first and last byte that is no whitespace, 1 where there is none, and its end.
@@ -44,9 +45,9 @@ pub fn ends_over(e: Ends, k: u8) -> Ends
 }
 
 // The first stretch from a place on, byte by byte.
-pub fn scan_stretch(s: &[u8], at: usize) -> Ends
-    requires { ⌜ (length (now s) ≤ 65536) × (at ≤ length (now s)) ⌝ }
-    ensures { λ r. ⌜ r ≡ scanned at (lineFrom (now (s .entry)) at) ⌝ }
+pub fn scan_stretch(s: &[u8], kinds: &[u8], at: usize) -> Ends
+    requires { ⌜ (length (now s) ≤ 65536) × (at ≤ length (now s)) × Passes (now kinds) ⌝ }
+    ensures { λ r. ⌜ r ≡ scanned (kindIn (now (kinds .entry))) at (lineFrom (now (s .entry)) at) ⌝ }
 {
     let mut e = Ends {
         first: 1,
@@ -54,7 +55,7 @@ pub fn scan_stretch(s: &[u8], at: usize) -> Ends
         end: at,
     };
     loop {
-        let k = kind_at(s, e.end);
+        let k = kind_at(s, kinds, e.end);
         match k {
             2 => {
                 return e;
@@ -86,11 +87,11 @@ pub fn align_of(first: u8, last: u8) -> u8
 }
 
 // The first stretch from a place on: what it tells.
-pub fn mark_at(s: &[u8], at: usize) -> Mark
-    requires { ⌜ (length (now s) ≤ 65536) × (at ≤ length (now s)) ⌝ }
-    ensures { λ r. ⌜ Marked (lineFrom (now (s .entry)) at) at r ⌝ }
+pub fn mark_at(s: &[u8], kinds: &[u8], at: usize) -> Mark
+    requires { ⌜ (length (now s) ≤ 65536) × (at ≤ length (now s)) × Passes (now kinds) ⌝ }
+    ensures { λ r. ⌜ Marked (kindIn (now (kinds .entry))) (lineFrom (now (s .entry)) at) at r ⌝ }
 {
-    let e = scan_stretch(s, at);
+    let e = scan_stretch(s, kinds, at);
     Mark {
         align: align_of(e.first, e.last),
         empty: e.first == 1,
@@ -99,13 +100,13 @@ pub fn mark_at(s: &[u8], at: usize) -> Mark
 }
 
 // Where a delimiter line's values start: after a leading divider.
-pub fn values_from(s: &[u8], at: usize) -> usize
-    requires { ⌜ (length (now s) ≤ 65536) × (at ≤ length (now s)) ⌝ }
-    ensures { λ r. ⌜ (r ≤ length (now (s .entry))) × (alignsFrom (now (s .entry)) r ≡ lineAlignments (now (s .entry)) at) ⌝ }
+pub fn values_from(s: &[u8], kinds: &[u8], at: usize) -> usize
+    requires { ⌜ (length (now s) ≤ 65536) × (at ≤ length (now s)) × Passes (now kinds) ⌝ }
+    ensures { λ r. ⌜ (r ≤ length (now (s .entry))) × (alignsFrom (kindIn (now (kinds .entry))) (now (s .entry)) r ≡ lineAlignments (kindIn (now (kinds .entry))) (now (s .entry)) at) ⌝ }
 {
-    let m = mark_at(s, at);
+    let m = mark_at(s, kinds, at);
     if m.empty {
-        if kind_at(s, m.end) == 3 {
+        if kind_at(s, kinds, m.end) == 3 {
             return m.end + 1;
         }
     }
@@ -113,15 +114,15 @@ pub fn values_from(s: &[u8], at: usize) -> usize
 }
 
 // The alignments of the stretches from a place on, into the first of the slots.
-pub fn align_rest(s: &[u8], at: usize, slots: &mut [u8])
-    requires { ⌜ (length (now s) ≤ 65536) × (at ≤ length (now s)) × (length (alignsFrom (now s) at) ≤ length (now slots)) ⌝ }
-    ensures { λ _. ⌜ now (slots .exit) ≡ filled 0 (alignsFrom (now (s .entry)) at) (now (slots .entry)) ⌝ }
+pub fn align_rest(s: &[u8], kinds: &[u8], at: usize, slots: &mut [u8])
+    requires { ⌜ (length (now s) ≤ 65536) × (at ≤ length (now s)) × (length (alignsFrom (kindIn (now kinds)) (now s) at) ≤ length (now slots)) × Passes (now kinds) ⌝ }
+    ensures { λ _. ⌜ now (slots .exit) ≡ filled 0 (alignsFrom (kindIn (now (kinds .entry))) (now (s .entry)) at) (now (slots .entry)) ⌝ }
 {
     let mut i = at;
     let mut n: usize = 0;
     loop {
-        let m = mark_at(s, i);
-        if kind_at(s, m.end) == 3 {
+        let m = mark_at(s, kinds, i);
+        if kind_at(s, kinds, m.end) == 3 {
             slots[n] = m.align;
             n += 1;
             i = m.end + 1;
@@ -136,20 +137,20 @@ pub fn align_rest(s: &[u8], at: usize, slots: &mut [u8])
 }
 
 // One table's alignments, from its delimiter line, into the first of the slots.
-pub fn align_line(s: &[u8], at: usize, slots: &mut [u8])
-    requires { ⌜ (length (now s) ≤ 65536) × (at ≤ length (now s)) × (length (lineAlignments (now s) at) ≤ length (now slots)) ⌝ }
-    ensures { λ _. ⌜ now (slots .exit) ≡ filled 0 (lineAlignments (now (s .entry)) at) (now (slots .entry)) ⌝ }
+pub fn align_line(s: &[u8], kinds: &[u8], at: usize, slots: &mut [u8])
+    requires { ⌜ (length (now s) ≤ 65536) × (at ≤ length (now s)) × (length (lineAlignments (kindIn (now kinds)) (now s) at) ≤ length (now slots)) × Passes (now kinds) ⌝ }
+    ensures { λ _. ⌜ now (slots .exit) ≡ filled 0 (lineAlignments (kindIn (now (kinds .entry))) (now (s .entry)) at) (now (slots .entry)) ⌝ }
 {
-    align_rest(s, values_from(s, at), slots);
+    align_rest(s, kinds, values_from(s, kinds, at), slots);
 }
 
 // The same from a slot on, where there are slots enough: the slots that are left are lent on.
-pub fn align_from(s: &[u8], at: usize, cells: usize, slots: &mut [u8], n: usize)
-    requires { ⌜ (length (now s) ≤ 65536) × (at ≤ length (now s)) × (cells ≡ length (lineAlignments (now s) at)) × (n + cells < 1000000000000) ⌝ }
-    ensures { λ _. ⌜ now (slots .exit) ≡ filledIf n (lineAlignments (now (s .entry)) at) (now (slots .entry)) ⌝ }
+pub fn align_from(s: &[u8], kinds: &[u8], at: usize, cells: usize, slots: &mut [u8], n: usize)
+    requires { ⌜ (length (now s) ≤ 65536) × (at ≤ length (now s)) × (cells ≡ length (lineAlignments (kindIn (now kinds)) (now s) at)) × (n + cells < 1000000000000) × Passes (now kinds) ⌝ }
+    ensures { λ _. ⌜ now (slots .exit) ≡ filledIf n (lineAlignments (kindIn (now (kinds .entry))) (now (s .entry)) at) (now (slots .entry)) ⌝ }
 {
     if n + cells <= slots.len() {
-        align_line(s, at, &mut slots[n..]);
+        align_line(s, kinds, at, &mut slots[n..]);
     }
 }
 

@@ -52,10 +52,13 @@ pub fn no_verdict(refusal: u8) -> Verdict
     }
 }
 
-// Questions 1, 9, 12 and 14, of a sheet of n bytes: the number of the first answered no, or 0.
-pub fn refusal(n: usize, c: Counts, l: Lent) -> u8
-    ensures { λ r. ⌜ r ≡ refusalOf n c l ⌝ }
+// Questions 1, 9, 12 and 14, of a sheet of n bytes, behind those of the table of kinds, which gave q: the number of the first answered no, or 0.
+pub fn refusal(q: u8, n: usize, c: Counts, l: Lent) -> u8
+    ensures { λ r. ⌜ r ≡ refusalOf q n c l ⌝ }
 {
+    if q != 0 {
+        return q;
+    }
     if 65536 < n {
         return 1;
     }
@@ -72,12 +75,12 @@ pub fn refusal(n: usize, c: Counts, l: Lent) -> u8
 }
 
 // The verdict on a sheet of n bytes with so many tables, events and alignments.
-pub fn judge(n: usize, c: Counts, l: Lent) -> Verdict
-    ensures { λ r. ⌜ r ≡ judgeOf n c l ⌝ }
+pub fn judge(q: u8, n: usize, c: Counts, l: Lent) -> Verdict
+    ensures { λ r. ⌜ r ≡ judgeOf q n c l ⌝ }
 {
-    let q = refusal(n, c, l);
-    if q != 0 {
-        return no_verdict(q);
+    let k = refusal(q, n, c, l);
+    if k != 0 {
+        return no_verdict(k);
     }
     Verdict {
         answer: Sheet::Accepted {

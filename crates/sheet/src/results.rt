@@ -25,6 +25,7 @@ ghost use mathlib.Core.Path.{_≡_};
 ghost use Prim.Native.Nat.{_<_, _≤_, _+_};
 ghost use lib.Dec.{eqb, ltb};
 ghost use lib.ListN.{length};
+ghost use Rattle.tokenizer.specs.Bytes.{kindIn, Passes};
 ghost use Rattle.tokenizer.specs.Events.{GfmTable, GfmTableBody, GfmTableHead, enter, leave};
 ghost use Rattle.tokenizer.specs.Places.{endOf};
 ghost use Rattle.tokenizer.specs.Slots.{wrote, pastIf, eventIf};
@@ -115,54 +116,75 @@ pub fn result_break(s: &[u8], w: Written, slots: &mut [Event]) -> Written
 }
 
 // A head line or a body row: its entry, its cells and its exit.
-pub fn result_text_row(s: &[u8], line: u32, from: u32, slots: &mut [Event], to: usize) -> Written
-    requires { ⌜ Inside (now s) (pointIn line from 1) × Few to (rowResult (now s) Body (pointIn line from 1)) ⌝ }
-    ensures { λ r. ⌜ (r ≡ writtenAt (endOf (here (now (s .entry)) (pointIn line from 1))) (to + length (rowResult (now (s .entry)) Body (pointIn line from 1))))
-        × (now (slots .exit) ≡ wrote to (rowResult (now (s .entry)) Body (pointIn line from 1)) (now (slots .entry))) ⌝ }
+pub fn result_text_row(
+    s: &[u8],
+    kinds: &[u8],
+    line: u32,
+    from: u32,
+    slots: &mut [Event],
+    to: usize,
+) -> Written
+    requires { ⌜ Inside (now s) (pointIn line from 1) × Few to (rowResult (kindIn (now kinds)) (now s) Body (pointIn line from 1)) × Passes (now kinds) ⌝ }
+    ensures { λ r. ⌜ (r ≡ writtenAt (endOf (here (now (s .entry)) (pointIn line from 1))) (to + length (rowResult (kindIn (now (kinds .entry))) (now (s .entry)) Body (pointIn line from 1))))
+        × (now (slots .exit) ≡ wrote to (rowResult (kindIn (now (kinds .entry))) (now (s .entry)) Body (pointIn line from 1)) (now (slots .entry))) ⌝ }
 {
     let part = text_part();
     put(slots, to, row_entry(part, line, from));
-    let r = write_text_cells(s, line, from, slots, behind(to));
+    let r = write_text_cells(s, kinds, line, from, slots, behind(to));
     let e = row_end(line, r);
     put(slots, e.slot, row_exit(part, e));
     one_more(e)
 }
 
 // A delimiter row: its entry, its cells and its exit.
-pub fn result_mark_row(s: &[u8], line: u32, from: u32, slots: &mut [Event], to: usize) -> Written
-    requires { ⌜ Inside (now s) (pointIn line from 1) × Few to (rowResult (now s) Delimiter (pointIn line from 1)) ⌝ }
-    ensures { λ r. ⌜ (r ≡ writtenAt (endOf (here (now (s .entry)) (pointIn line from 1))) (to + length (rowResult (now (s .entry)) Delimiter (pointIn line from 1))))
-        × (now (slots .exit) ≡ wrote to (rowResult (now (s .entry)) Delimiter (pointIn line from 1)) (now (slots .entry))) ⌝ }
+pub fn result_mark_row(
+    s: &[u8],
+    kinds: &[u8],
+    line: u32,
+    from: u32,
+    slots: &mut [Event],
+    to: usize,
+) -> Written
+    requires { ⌜ Inside (now s) (pointIn line from 1) × Few to (rowResult (kindIn (now kinds)) (now s) Delimiter (pointIn line from 1)) × Passes (now kinds) ⌝ }
+    ensures { λ r. ⌜ (r ≡ writtenAt (endOf (here (now (s .entry)) (pointIn line from 1))) (to + length (rowResult (kindIn (now (kinds .entry))) (now (s .entry)) Delimiter (pointIn line from 1))))
+        × (now (slots .exit) ≡ wrote to (rowResult (kindIn (now (kinds .entry))) (now (s .entry)) Delimiter (pointIn line from 1)) (now (slots .entry))) ⌝ }
 {
     let part = mark_part();
     put(slots, to, row_entry(part, line, from));
-    let r = write_mark_cells(s, line, from, slots, behind(to));
+    let r = write_mark_cells(s, kinds, line, from, slots, behind(to));
     let e = row_end(line, r);
     put(slots, e.slot, row_exit(part, e));
     one_more(e)
 }
 
 // A table up to its head's exit.
-pub fn result_head(s: &[u8], line: u32, from: u32, slots: &mut [Event], to: usize) -> Written
-    requires { ⌜ AtLine (now s) (pointIn line from 1) × (lineAt (now s) (pointIn line from 1) .end ≡ 0 → ⊥) × Few to (headResult (now s) (pointIn line from 1)) ⌝ }
-    ensures { λ r. ⌜ (r ≡ writtenAt (endOf (here (now (s .entry)) (after (now (s .entry)) (pointIn line from 1)))) (to + length (headResult (now (s .entry)) (pointIn line from 1))))
-        × (now (slots .exit) ≡ wrote to (headResult (now (s .entry)) (pointIn line from 1)) (now (slots .entry))) ⌝ }
+pub fn result_head(
+    s: &[u8],
+    kinds: &[u8],
+    line: u32,
+    from: u32,
+    slots: &mut [Event],
+    to: usize,
+) -> Written
+    requires { ⌜ AtLine (now s) (pointIn line from 1) × (lineAt (now s) (pointIn line from 1) .end ≡ 0 → ⊥) × Few to (headResult (kindIn (now kinds)) (now s) (pointIn line from 1)) × Passes (now kinds) ⌝ }
+    ensures { λ r. ⌜ (r ≡ writtenAt (endOf (here (now (s .entry)) (after (now (s .entry)) (pointIn line from 1)))) (to + length (headResult (kindIn (now (kinds .entry))) (now (s .entry)) (pointIn line from 1))))
+        × (now (slots .exit) ≡ wrote to (headResult (kindIn (now (kinds .entry))) (now (s .entry)) (pointIn line from 1)) (now (slots .entry))) ⌝ }
 {
     put(slots, to, line_entry(Name::GfmTable, line, from));
     let k = behind(to);
     put(slots, k, head_entry(line, from));
-    let h = result_text_row(s, line, from, slots, behind(k));
+    let h = result_text_row(s, kinds, line, from, slots, behind(k));
     let b = result_break(s, h, slots);
-    let d = result_mark_row(s, b.line, b.at, slots, b.slot);
+    let d = result_mark_row(s, kinds, b.line, b.at, slots, b.slot);
     put(slots, d.slot, head_exit(d));
     one_more(d)
 }
 
 // The body rows behind a line of a table, up to the place where the last one ends.
-pub fn result_rows(s: &[u8], w: Written, stop: u32, slots: &mut [Event]) -> Written
-    requires { ⌜ AtEnd (now s) w × (stop ≡ lastStop (now s) (pointAt w)) × Few (w .slot) (rowsResult (eqb (w .at) (w .at)) (bodyAfter (now s) (pointAt w))) ⌝ }
-    ensures { λ r. ⌜ (r ≡ writtenAt (lastPoint (now (s .entry)) (pointAt w)) (w .slot + length (rowsResult (eqb (w .at) (w .at)) (bodyAfter (now (s .entry)) (pointAt w)))))
-        × (now (slots .exit) ≡ wrote (w .slot) (rowsResult (eqb (w .at) (w .at)) (bodyAfter (now (s .entry)) (pointAt w))) (now (slots .entry))) ⌝ }
+pub fn result_rows(s: &[u8], kinds: &[u8], w: Written, stop: u32, slots: &mut [Event]) -> Written
+    requires { ⌜ AtEnd (now s) w × (stop ≡ lastStop (kindIn (now kinds)) (now s) (pointAt w)) × Few (w .slot) (rowsResult (eqb (w .at) (w .at)) (bodyAfter (kindIn (now kinds)) (now s) (pointAt w))) × Passes (now kinds) ⌝ }
+    ensures { λ r. ⌜ (r ≡ writtenAt (lastPoint (kindIn (now (kinds .entry))) (now (s .entry)) (pointAt w)) (w .slot + length (rowsResult (eqb (w .at) (w .at)) (bodyAfter (kindIn (now (kinds .entry))) (now (s .entry)) (pointAt w)))))
+        × (now (slots .exit) ≡ wrote (w .slot) (rowsResult (eqb (w .at) (w .at)) (bodyAfter (kindIn (now (kinds .entry))) (now (s .entry)) (pointAt w))) (now (slots .entry))) ⌝ }
 {
     let mut x = w;
     while x.at < stop {
@@ -173,7 +195,7 @@ pub fn result_rows(s: &[u8], w: Written, stop: u32, slots: &mut [Event]) -> Writ
             b,
             name_entry(Name::GfmTableBody, b),
         );
-        let e = result_text_row(s, k.line, k.at, slots, k.slot);
+        let e = result_text_row(s, kinds, k.line, k.at, slots, k.slot);
         x = e;
     }
     x
@@ -195,28 +217,29 @@ pub fn result_end(from: u32, w: Written, slots: &mut [Event]) -> Written
 }
 
 // The body of a table behind its head, and the table's exit.
-pub fn result_body(s: &[u8], w: Written, stop: u32, slots: &mut [Event]) -> Written
-    requires { ⌜ AtEnd (now s) w × (stop ≡ lastStop (now s) (pointAt w)) × Few (w .slot) (resolvedBody (leave GfmTableHead (pointAt w)) (bodyAfter (now s) (pointAt w))) ⌝ }
-    ensures { λ r. ⌜ (r ≡ writtenAt (lastPoint (now (s .entry)) (pointAt w)) (w .slot + length (resolvedBody (leave GfmTableHead (pointAt w)) (bodyAfter (now (s .entry)) (pointAt w)))))
-        × (now (slots .exit) ≡ wrote (w .slot) (resolvedBody (leave GfmTableHead (pointAt w)) (bodyAfter (now (s .entry)) (pointAt w))) (now (slots .entry))) ⌝ }
+pub fn result_body(s: &[u8], kinds: &[u8], w: Written, stop: u32, slots: &mut [Event]) -> Written
+    requires { ⌜ AtEnd (now s) w × (stop ≡ lastStop (kindIn (now kinds)) (now s) (pointAt w)) × Few (w .slot) (resolvedBody (leave GfmTableHead (pointAt w)) (bodyAfter (kindIn (now kinds)) (now s) (pointAt w))) × Passes (now kinds) ⌝ }
+    ensures { λ r. ⌜ (r ≡ writtenAt (lastPoint (kindIn (now (kinds .entry))) (now (s .entry)) (pointAt w)) (w .slot + length (resolvedBody (leave GfmTableHead (pointAt w)) (bodyAfter (kindIn (now (kinds .entry))) (now (s .entry)) (pointAt w)))))
+        × (now (slots .exit) ≡ wrote (w .slot) (resolvedBody (leave GfmTableHead (pointAt w)) (bodyAfter (kindIn (now (kinds .entry))) (now (s .entry)) (pointAt w))) (now (slots .entry))) ⌝ }
 {
-    let x = result_rows(s, w, stop, slots);
+    let x = result_rows(s, kinds, w, stop, slots);
     result_end(w.at, x, slots)
 }
 
 // A table, from its entry to its exit.
 pub fn result_table(
     s: &[u8],
+    kinds: &[u8],
     line: u32,
     from: u32,
     stop: u32,
     slots: &mut [Event],
     to: usize,
 ) -> Written
-    requires { ⌜ AtLine (now s) (pointIn line from 1) × (lineAt (now s) (pointIn line from 1) .end ≡ 0 → ⊥) × (stop ≡ lastStop (now s) (after (now s) (pointIn line from 1))) × Few to (resolvedTable (tableAt (now s) (pointIn line from 1))) ⌝ }
-    ensures { λ r. ⌜ (r ≡ writtenAt (lastPoint (now (s .entry)) (after (now (s .entry)) (pointIn line from 1))) (to + length (resolvedTable (tableAt (now (s .entry)) (pointIn line from 1)))))
-        × (now (slots .exit) ≡ wrote to (resolvedTable (tableAt (now (s .entry)) (pointIn line from 1))) (now (slots .entry))) ⌝ }
+    requires { ⌜ AtLine (now s) (pointIn line from 1) × (lineAt (now s) (pointIn line from 1) .end ≡ 0 → ⊥) × (stop ≡ lastStop (kindIn (now kinds)) (now s) (after (now s) (pointIn line from 1))) × Few to (resolvedTable (tableAt (kindIn (now kinds)) (now s) (pointIn line from 1))) × Passes (now kinds) ⌝ }
+    ensures { λ r. ⌜ (r ≡ writtenAt (lastPoint (kindIn (now (kinds .entry))) (now (s .entry)) (after (now (s .entry)) (pointIn line from 1))) (to + length (resolvedTable (tableAt (kindIn (now (kinds .entry))) (now (s .entry)) (pointIn line from 1)))))
+        × (now (slots .exit) ≡ wrote to (resolvedTable (tableAt (kindIn (now (kinds .entry))) (now (s .entry)) (pointIn line from 1))) (now (slots .entry))) ⌝ }
 {
-    let h = result_head(s, line, from, slots, to);
-    result_body(s, h, stop, slots)
+    let h = result_head(s, kinds, line, from, slots, to);
+    result_body(s, kinds, h, stop, slots)
 }

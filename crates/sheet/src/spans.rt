@@ -4,7 +4,7 @@ use crate::seek::next_head;
 use tokenizer::lines::line_end;
 use tokenizer::lines::line_stop;
 ghost use mathlib.Core.Path.{_≡_};
-ghost use Rattle.tokenizer.specs.Bytes.{kindOf};
+ghost use Rattle.tokenizer.specs.Bytes.{kindIn, Passes};
 ghost use Rattle.tokenizer.specs.Places.{linesFrom};
 ghost use Rattle.gfm_table.specs.Places.{pointIn};
 ghost use Rattle.sheet.specs.Walk.{heads};
@@ -48,14 +48,14 @@ impl Span {
 }
 
 // The end of the body rows after a line of a table.
-pub fn body_end(s: &[u8], line: u32, at: u32) -> Tail
-    requires { ⌜ AtLine (now s) (pointIn line at 1) ⌝ }
-    ensures { λ r. ⌜ EndsBody (now (s .entry)) (pointIn line at 1) r ⌝ }
+pub fn body_end(s: &[u8], kinds: &[u8], line: u32, at: u32) -> Tail
+    requires { ⌜ AtLine (now s) (pointIn line at 1) × Passes (now kinds) ⌝ }
+    ensures { λ r. ⌜ EndsBody (kindIn (now (kinds .entry))) (now (s .entry)) (pointIn line at 1) r ⌝ }
 {
     let mut l = line;
     let mut i = at as usize;
     loop {
-        let e = line_stop(s, i);
+        let e = line_stop(s, kinds, i);
         let n = line_end(s, e) as usize;
         if n == 0 {
             let stop = e as u32;
@@ -66,7 +66,7 @@ pub fn body_end(s: &[u8], line: u32, at: u32) -> Tail
         }
         let t = e + n;
         l += 1;
-        if closes_at(s, t) {
+        if closes_at(s, kinds, t) {
             return Tail {
                 stop: e as u32,
                 next: Where {
@@ -80,13 +80,13 @@ pub fn body_end(s: &[u8], line: u32, at: u32) -> Tail
 }
 
 // The first table from a line on.
-pub fn table_from(s: &[u8], on: bool, w: Where) -> Span
-    requires { ⌜ AtLine (now s) (startOf w) ⌝ }
-    ensures { λ r. ⌜ FirstTable (now (s .entry)) on r (heads kindOf on (linesFrom (now (s .entry)) (startOf w))) ⌝ }
+pub fn table_from(s: &[u8], kinds: &[u8], on: bool, w: Where) -> Span
+    requires { ⌜ AtLine (now s) (startOf w) × Passes (now kinds) ⌝ }
+    ensures { λ r. ⌜ FirstTable (kindIn (now (kinds .entry))) (now (s .entry)) on r (heads (kindIn (now (kinds .entry))) on (linesFrom (now (s .entry)) (startOf w))) ⌝ }
 {
-    let o = next_head(s, w.line, w.at, on);
+    let o = next_head(s, kinds, w.line, w.at, on);
     if o.found {
-        let t = body_end(s, o.line + 1, o.delimiter);
+        let t = body_end(s, kinds, o.line + 1, o.delimiter);
         let next = t.next;
         return Span {
             found: true,

@@ -14,6 +14,7 @@ use tokenizer::slots::put;
 ghost use mathlib.Core.Path.{_≡_};
 ghost use Prim.Native.Nat.{_+_, _<_};
 ghost use lib.ListN.{length};
+ghost use Rattle.tokenizer.specs.Bytes.{kindIn, Passes};
 ghost use Rattle.tokenizer.specs.Events.{LineEnding, GfmTableHead, enter, leave};
 ghost use Rattle.tokenizer.specs.Slots.{wrote};
 ghost use Rattle.tokenizer.specs.Moves.{Inside, lineAt, after};
@@ -162,79 +163,100 @@ pub fn below(s: &[u8], w: Written) -> Written
 }
 
 // A head line or a body row: its entry, its pieces and its exit.
-pub fn raw_text_row(s: &[u8], line: u32, from: u32, slots: &mut [Event], to: usize) -> Written
-    requires { ⌜ Inside (now s) (pointIn line from 1) × Few to (rowEvents (now s) Body (pointIn line from 1)) ⌝ }
-    ensures { λ r. ⌜ (r ≡ writtenAt (endOf (here (now (s .entry)) (pointIn line from 1))) (to + length (rowEvents (now (s .entry)) Body (pointIn line from 1))))
-        × (now (slots .exit) ≡ wrote to (rowEvents (now (s .entry)) Body (pointIn line from 1)) (now (slots .entry))) ⌝ }
+pub fn raw_text_row(
+    s: &[u8],
+    kinds: &[u8],
+    line: u32,
+    from: u32,
+    slots: &mut [Event],
+    to: usize,
+) -> Written
+    requires { ⌜ Inside (now s) (pointIn line from 1) × Few to (rowEvents (kindIn (now kinds)) (now s) Body (pointIn line from 1)) × Passes (now kinds) ⌝ }
+    ensures { λ r. ⌜ (r ≡ writtenAt (endOf (here (now (s .entry)) (pointIn line from 1))) (to + length (rowEvents (kindIn (now (kinds .entry))) (now (s .entry)) Body (pointIn line from 1))))
+        × (now (slots .exit) ≡ wrote to (rowEvents (kindIn (now (kinds .entry))) (now (s .entry)) Body (pointIn line from 1)) (now (slots .entry))) ⌝ }
 {
     let part = text_part();
     put(slots, to, row_entry(part, line, from));
-    let r = write_text(s, line, from, slots, behind(to));
+    let r = write_text(s, kinds, line, from, slots, behind(to));
     let e = row_end(line, r);
     put(slots, e.slot, row_exit(part, e));
     one_more(e)
 }
 
 // A delimiter row: its entry, its pieces and its exit.
-pub fn raw_mark_row(s: &[u8], line: u32, from: u32, slots: &mut [Event], to: usize) -> Written
-    requires { ⌜ Inside (now s) (pointIn line from 1) × Few to (rowEvents (now s) Delimiter (pointIn line from 1)) ⌝ }
-    ensures { λ r. ⌜ (r ≡ writtenAt (endOf (here (now (s .entry)) (pointIn line from 1))) (to + length (rowEvents (now (s .entry)) Delimiter (pointIn line from 1))))
-        × (now (slots .exit) ≡ wrote to (rowEvents (now (s .entry)) Delimiter (pointIn line from 1)) (now (slots .entry))) ⌝ }
+pub fn raw_mark_row(
+    s: &[u8],
+    kinds: &[u8],
+    line: u32,
+    from: u32,
+    slots: &mut [Event],
+    to: usize,
+) -> Written
+    requires { ⌜ Inside (now s) (pointIn line from 1) × Few to (rowEvents (kindIn (now kinds)) (now s) Delimiter (pointIn line from 1)) × Passes (now kinds) ⌝ }
+    ensures { λ r. ⌜ (r ≡ writtenAt (endOf (here (now (s .entry)) (pointIn line from 1))) (to + length (rowEvents (kindIn (now (kinds .entry))) (now (s .entry)) Delimiter (pointIn line from 1))))
+        × (now (slots .exit) ≡ wrote to (rowEvents (kindIn (now (kinds .entry))) (now (s .entry)) Delimiter (pointIn line from 1)) (now (slots .entry))) ⌝ }
 {
     let part = mark_part();
     put(slots, to, row_entry(part, line, from));
-    let r = write_marks(s, line, from, slots, behind(to));
+    let r = write_marks(s, kinds, line, from, slots, behind(to));
     let e = row_end(line, r);
     put(slots, e.slot, row_exit(part, e));
     one_more(e)
 }
 
 // The line end behind a row, and the body row of the next line.
-pub fn raw_text_next(s: &[u8], w: Written, slots: &mut [Event]) -> Written
-    requires { ⌜ AtEnd (now s) w × (lineAt (now s) (pointAt w) .end ≡ 0 → ⊥) × Few (w .slot) (nextEvents (now s) Body (pointAt w)) ⌝ }
-    ensures { λ r. ⌜ (r ≡ writtenAt (endOf (here (now (s .entry)) (after (now (s .entry)) (pointAt w)))) (w .slot + length (nextEvents (now (s .entry)) Body (pointAt w))))
-        × (now (slots .exit) ≡ wrote (w .slot) (nextEvents (now (s .entry)) Body (pointAt w)) (now (slots .entry))) ⌝ }
+pub fn raw_text_next(s: &[u8], kinds: &[u8], w: Written, slots: &mut [Event]) -> Written
+    requires { ⌜ AtEnd (now s) w × (lineAt (now s) (pointAt w) .end ≡ 0 → ⊥) × Few (w .slot) (nextEvents (kindIn (now kinds)) (now s) Body (pointAt w)) × Passes (now kinds) ⌝ }
+    ensures { λ r. ⌜ (r ≡ writtenAt (endOf (here (now (s .entry)) (after (now (s .entry)) (pointAt w)))) (w .slot + length (nextEvents (kindIn (now (kinds .entry))) (now (s .entry)) Body (pointAt w))))
+        × (now (slots .exit) ≡ wrote (w .slot) (nextEvents (kindIn (now (kinds .entry))) (now (s .entry)) Body (pointAt w)) (now (slots .entry))) ⌝ }
 {
     let b = below(s, w);
     put(slots, w.slot, break_entry(w));
     put(slots, behind(w.slot), break_exit(b));
-    raw_text_row(s, b.line, b.at, slots, b.slot)
+    raw_text_row(s, kinds, b.line, b.at, slots, b.slot)
 }
 
 // The line end behind a head line, and the delimiter row of the next line.
-pub fn raw_mark_next(s: &[u8], w: Written, slots: &mut [Event]) -> Written
-    requires { ⌜ AtEnd (now s) w × (lineAt (now s) (pointAt w) .end ≡ 0 → ⊥) × Few (w .slot) (nextEvents (now s) Delimiter (pointAt w)) ⌝ }
-    ensures { λ r. ⌜ (r ≡ writtenAt (endOf (here (now (s .entry)) (after (now (s .entry)) (pointAt w)))) (w .slot + length (nextEvents (now (s .entry)) Delimiter (pointAt w))))
-        × (now (slots .exit) ≡ wrote (w .slot) (nextEvents (now (s .entry)) Delimiter (pointAt w)) (now (slots .entry))) ⌝ }
+pub fn raw_mark_next(s: &[u8], kinds: &[u8], w: Written, slots: &mut [Event]) -> Written
+    requires { ⌜ AtEnd (now s) w × (lineAt (now s) (pointAt w) .end ≡ 0 → ⊥) × Few (w .slot) (nextEvents (kindIn (now kinds)) (now s) Delimiter (pointAt w)) × Passes (now kinds) ⌝ }
+    ensures { λ r. ⌜ (r ≡ writtenAt (endOf (here (now (s .entry)) (after (now (s .entry)) (pointAt w)))) (w .slot + length (nextEvents (kindIn (now (kinds .entry))) (now (s .entry)) Delimiter (pointAt w))))
+        × (now (slots .exit) ≡ wrote (w .slot) (nextEvents (kindIn (now (kinds .entry))) (now (s .entry)) Delimiter (pointAt w)) (now (slots .entry))) ⌝ }
 {
     let b = below(s, w);
     put(slots, w.slot, break_entry(w));
     put(slots, behind(w.slot), break_exit(b));
-    raw_mark_row(s, b.line, b.at, slots, b.slot)
+    raw_mark_row(s, kinds, b.line, b.at, slots, b.slot)
 }
 
 // A head: its line, the line end, its delimiter row.
-pub fn raw_head(s: &[u8], line: u32, from: u32, slots: &mut [Event], to: usize) -> Written
-    requires { ⌜ AtLine (now s) (pointIn line from 1) × (lineAt (now s) (pointIn line from 1) .end ≡ 0 → ⊥) × Few to (headsEvents (now s) (pointIn line from 1)) ⌝ }
-    ensures { λ r. ⌜ (r ≡ writtenAt (endOf (here (now (s .entry)) (after (now (s .entry)) (pointIn line from 1)))) (to + length (headsEvents (now (s .entry)) (pointIn line from 1))))
-        × (now (slots .exit) ≡ wrote to (headsEvents (now (s .entry)) (pointIn line from 1)) (now (slots .entry))) ⌝ }
+pub fn raw_head(
+    s: &[u8],
+    kinds: &[u8],
+    line: u32,
+    from: u32,
+    slots: &mut [Event],
+    to: usize,
+) -> Written
+    requires { ⌜ AtLine (now s) (pointIn line from 1) × (lineAt (now s) (pointIn line from 1) .end ≡ 0 → ⊥) × Few to (headsEvents (kindIn (now kinds)) (now s) (pointIn line from 1)) × Passes (now kinds) ⌝ }
+    ensures { λ r. ⌜ (r ≡ writtenAt (endOf (here (now (s .entry)) (after (now (s .entry)) (pointIn line from 1)))) (to + length (headsEvents (kindIn (now (kinds .entry))) (now (s .entry)) (pointIn line from 1))))
+        × (now (slots .exit) ≡ wrote to (headsEvents (kindIn (now (kinds .entry))) (now (s .entry)) (pointIn line from 1)) (now (slots .entry))) ⌝ }
 {
     put(slots, to, head_entry(line, from));
-    let h = raw_text_row(s, line, from, slots, behind(to));
-    let d = raw_mark_next(s, h, slots);
+    let h = raw_text_row(s, kinds, line, from, slots, behind(to));
+    let d = raw_mark_next(s, kinds, h, slots);
     put(slots, d.slot, head_exit(d));
     one_more(d)
 }
 
 // The body rows behind a line of a table, up to the place where the last one ends.
-pub fn raw_body(s: &[u8], w: Written, stop: u32, slots: &mut [Event]) -> Written
-    requires { ⌜ AtEnd (now s) w × (stop ≡ lastStop (now s) (pointAt w)) × Few (w .slot) (rowsAfter (now s) (pointAt w)) ⌝ }
-    ensures { λ r. ⌜ (r ≡ writtenAt (lastPoint (now (s .entry)) (pointAt w)) (w .slot + length (rowsAfter (now (s .entry)) (pointAt w))))
-        × (now (slots .exit) ≡ wrote (w .slot) (rowsAfter (now (s .entry)) (pointAt w)) (now (slots .entry))) ⌝ }
+pub fn raw_body(s: &[u8], kinds: &[u8], w: Written, stop: u32, slots: &mut [Event]) -> Written
+    requires { ⌜ AtEnd (now s) w × (stop ≡ lastStop (kindIn (now kinds)) (now s) (pointAt w)) × Few (w .slot) (rowsAfter (kindIn (now kinds)) (now s) (pointAt w)) × Passes (now kinds) ⌝ }
+    ensures { λ r. ⌜ (r ≡ writtenAt (lastPoint (kindIn (now (kinds .entry))) (now (s .entry)) (pointAt w)) (w .slot + length (rowsAfter (kindIn (now (kinds .entry))) (now (s .entry)) (pointAt w))))
+        × (now (slots .exit) ≡ wrote (w .slot) (rowsAfter (kindIn (now (kinds .entry))) (now (s .entry)) (pointAt w)) (now (slots .entry))) ⌝ }
 {
     let mut x = w;
     while x.at < stop {
-        let next = raw_text_next(s, x, slots);
+        let next = raw_text_next(s, kinds, x, slots);
         x = next;
     }
     x
@@ -243,16 +265,17 @@ pub fn raw_body(s: &[u8], w: Written, stop: u32, slots: &mut [Event]) -> Written
 // A table, from its head line to the end of its last row.
 pub fn raw_table(
     s: &[u8],
+    kinds: &[u8],
     line: u32,
     from: u32,
     stop: u32,
     slots: &mut [Event],
     to: usize,
 ) -> Written
-    requires { ⌜ AtLine (now s) (pointIn line from 1) × (lineAt (now s) (pointIn line from 1) .end ≡ 0 → ⊥) × (stop ≡ lastStop (now s) (after (now s) (pointIn line from 1))) × Few to (rawTable (tableAt (now s) (pointIn line from 1))) ⌝ }
-    ensures { λ r. ⌜ (r ≡ writtenAt (lastPoint (now (s .entry)) (after (now (s .entry)) (pointIn line from 1))) (to + length (rawTable (tableAt (now (s .entry)) (pointIn line from 1)))))
-        × (now (slots .exit) ≡ wrote to (rawTable (tableAt (now (s .entry)) (pointIn line from 1))) (now (slots .entry))) ⌝ }
+    requires { ⌜ AtLine (now s) (pointIn line from 1) × (lineAt (now s) (pointIn line from 1) .end ≡ 0 → ⊥) × (stop ≡ lastStop (kindIn (now kinds)) (now s) (after (now s) (pointIn line from 1))) × Few to (rawTable (tableAt (kindIn (now kinds)) (now s) (pointIn line from 1))) × Passes (now kinds) ⌝ }
+    ensures { λ r. ⌜ (r ≡ writtenAt (lastPoint (kindIn (now (kinds .entry))) (now (s .entry)) (after (now (s .entry)) (pointIn line from 1))) (to + length (rawTable (tableAt (kindIn (now (kinds .entry))) (now (s .entry)) (pointIn line from 1)))))
+        × (now (slots .exit) ≡ wrote to (rawTable (tableAt (kindIn (now (kinds .entry))) (now (s .entry)) (pointIn line from 1))) (now (slots .entry))) ⌝ }
 {
-    let h = raw_head(s, line, from, slots, to);
-    raw_body(s, h, stop, slots)
+    let h = raw_head(s, kinds, line, from, slots, to);
+    raw_body(s, kinds, h, stop, slots)
 }

@@ -10,7 +10,7 @@ use tokenizer::lines::first_point;
 ghost use mathlib.Core.Path.{_≡_};
 ghost use Prim.Native.Nat.{_≤_, _<_, _+_};
 ghost use lib.ListN.{length};
-ghost use Rattle.tokenizer.specs.Bytes.{kindOf};
+ghost use Rattle.tokenizer.specs.Bytes.{kindIn, Passes, kindsRefusal};
 ghost use Rattle.tokenizer.specs.Places.{linesFrom};
 ghost use Rattle.tokenizer.specs.Slots.{wrote};
 ghost use Rattle.sheet.specs.Walk.{heads, rawOf, resolvedOf};
@@ -33,16 +33,21 @@ pub struct Tabled {
     pub counts: Counts,
 }
 
-// The first table of a sheet, none where the sheet is too long.
-pub fn first_span(s: &[u8], on: bool) -> Span
-    ensures { λ r. ⌜ FirstTable (now (s .entry)) on r (tablesRead (now (s .entry)) on) ⌝ }
+// The first table of a sheet by a table of kinds whose questions gave q: none where it is refused or the sheet is too long.
+pub fn first_span(s: &[u8], kinds: &[u8], q: u8, on: bool) -> Span
+    requires { ⌜ q ≡ kindsRefusal (now kinds) ⌝ }
+    ensures { λ r. ⌜ FirstTable (kindIn (now (kinds .entry))) (now (s .entry)) on r (tablesRead (now (s .entry)) (now (kinds .entry)) on) ⌝ }
 {
+    if q != 0 {
+        return Span::NONE;
+    }
     if 65536 < s.len() {
         return Span::NONE;
     }
     let p = first_point(s);
     table_from(
         s,
+        kinds,
         on,
         Where {
             line: p.line,
@@ -52,11 +57,12 @@ pub fn first_span(s: &[u8], on: bool) -> Span
 }
 
 // Before the first table.
-pub fn first_table(s: &[u8], on: bool) -> Tabled
-    ensures { λ r. ⌜ FirstTable (now (s .entry)) on (r .next) (tablesRead (now (s .entry)) on) × (r .counts ≡ record { tables = 0; raw = 0; results = 0; aligned = 0 }) ⌝ }
+pub fn first_table(s: &[u8], kinds: &[u8], q: u8, on: bool) -> Tabled
+    requires { ⌜ q ≡ kindsRefusal (now kinds) ⌝ }
+    ensures { λ r. ⌜ FirstTable (kindIn (now (kinds .entry))) (now (s .entry)) on (r .next) (tablesRead (now (s .entry)) (now (kinds .entry)) on) × (r .counts ≡ record { tables = 0; raw = 0; results = 0; aligned = 0 }) ⌝ }
 {
     Tabled {
-        next: first_span(s, on),
+        next: first_span(s, kinds, q, on),
         counts: Counts {
             tables: 0,
             raw: 0,
@@ -67,16 +73,16 @@ pub fn first_table(s: &[u8], on: bool) -> Tabled
 }
 
 // Behind a table, whose events end before the slots that are said.
-pub fn next_table(s: &[u8], on: bool, c: Tabled, raw: usize, results: usize) -> Tabled
-    requires { ⌜ AtLine (now s) (startOf (c .next .next)) × (c .counts .tables < 1000000000000) × (c .counts .aligned + c .next .cells < 1000000000000) ⌝ }
-    ensures { λ r. ⌜ FirstTable (now (s .entry)) on (r .next) (heads kindOf on (linesFrom (now (s .entry)) (startOf (c .next .next))))
+pub fn next_table(s: &[u8], kinds: &[u8], on: bool, c: Tabled, raw: usize, results: usize) -> Tabled
+    requires { ⌜ AtLine (now s) (startOf (c .next .next)) × (c .counts .tables < 1000000000000) × (c .counts .aligned + c .next .cells < 1000000000000) × Passes (now kinds) ⌝ }
+    ensures { λ r. ⌜ FirstTable (kindIn (now (kinds .entry))) (now (s .entry)) on (r .next) (heads (kindIn (now (kinds .entry))) on (linesFrom (now (s .entry)) (startOf (c .next .next))))
         × (r .counts ≡ oneMore (c .counts) raw results (c .next .cells)) ⌝ }
 {
     let t = c.next;
     let n = c.counts;
     let w = t.next;
     Tabled {
-        next: table_from(s, on, w),
+        next: table_from(s, kinds, on, w),
         counts: Counts {
             tables: n.tables + 1,
             raw,
@@ -87,32 +93,43 @@ pub fn next_table(s: &[u8], on: bool, c: Tabled, raw: usize, results: usize) -> 
 }
 
 // The alignments of the next table, into the slots behind those before it.
-pub fn align_table(s: &[u8], c: Tabled, slots: &mut [u8])
-    requires { ⌜ (length (now s) ≤ 65536) × (c .next .delimiter ≤ length (now s)) × (c .next .cells ≡ length (lineAlignments (now s) (c .next .delimiter))) × (c .counts .aligned + c .next .cells < 1000000000000) ⌝ }
-    ensures { λ _. ⌜ now (slots .exit) ≡ filledIf (c .counts .aligned) (lineAlignments (now (s .entry)) (c .next .delimiter)) (now (slots .entry)) ⌝ }
+pub fn align_table(s: &[u8], kinds: &[u8], c: Tabled, slots: &mut [u8])
+    requires { ⌜ (length (now s) ≤ 65536) × (c .next .delimiter ≤ length (now s)) × (c .next .cells ≡ length (lineAlignments (kindIn (now kinds)) (now s) (c .next .delimiter))) × (c .counts .aligned + c .next .cells < 1000000000000) × Passes (now kinds) ⌝ }
+    ensures { λ _. ⌜ now (slots .exit) ≡ filledIf (c .counts .aligned) (lineAlignments (kindIn (now (kinds .entry))) (now (s .entry)) (c .next .delimiter)) (now (slots .entry)) ⌝ }
 {
     let t = c.next;
     let n = c.counts;
-    align_from(s, t.delimiter as usize, t.cells as usize, slots, n.aligned);
+    align_from(
+        s,
+        kinds,
+        t.delimiter as usize,
+        t.cells as usize,
+        slots,
+        n.aligned,
+    );
 }
 
 // All tables: their raw events, their result events and their alignments, each as far as there are slots, and how many there are.
 pub fn write_tables(
     s: &[u8],
+    kinds: &[u8],
+    q: u8,
     on: bool,
     raw: &mut [Event],
     results: &mut [Event],
     alignments: &mut [u8],
 ) -> Counts
-    ensures { λ r. ⌜ (r ≡ countsOf (tablesRead (now (s .entry)) on))
-        × ((now (raw .exit) ≡ wrote 0 (rawOf (tablesRead (now (s .entry)) on)) (now (raw .entry)))
-        × ((now (results .exit) ≡ wrote 0 (resolvedOf (tablesRead (now (s .entry)) on)) (now (results .entry)))
-        × (now (alignments .exit) ≡ alignedFrom 0 (tablesRead (now (s .entry)) on) (now (alignments .entry))))) ⌝ }
+    requires { ⌜ q ≡ kindsRefusal (now kinds) ⌝ }
+    ensures { λ r. ⌜ (r ≡ countsOf (tablesRead (now (s .entry)) (now (kinds .entry)) on))
+        × ((now (raw .exit) ≡ wrote 0 (rawOf (tablesRead (now (s .entry)) (now (kinds .entry)) on)) (now (raw .entry)))
+        × ((now (results .exit) ≡ wrote 0 (resolvedOf (tablesRead (now (s .entry)) (now (kinds .entry)) on)) (now (results .entry)))
+        × (now (alignments .exit) ≡ alignedFrom 0 (tablesRead (now (s .entry)) (now (kinds .entry)) on) (now (alignments .entry))))) ⌝ }
 {
-    let mut cur = first_table(s, on);
+    let mut cur = first_table(s, kinds, q, on);
     while cur.next.found {
         let a = raw_table(
             s,
+            kinds,
             cur.next.line,
             cur.next.at,
             cur.next.stop,
@@ -121,14 +138,15 @@ pub fn write_tables(
         );
         let b = result_table(
             s,
+            kinds,
             cur.next.line,
             cur.next.at,
             cur.next.stop,
             results,
             cur.counts.results,
         );
-        align_table(s, cur, alignments);
-        let next = next_table(s, on, cur, a.slot, b.slot);
+        align_table(s, kinds, cur, alignments);
+        let next = next_table(s, kinds, on, cur, a.slot, b.slot);
         cur = next;
     }
     cur.counts

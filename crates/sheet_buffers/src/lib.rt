@@ -16,14 +16,21 @@ pub struct Read {
     pub alignments: [u8; 1024],
 }
 
-// A sheet, with 1,024 slots of each kind.
-pub fn read_small(text: &[u8], code_indented: bool) -> Read
-    ensures { λ r. ⌜ r ≡ readOf (now (text .entry)) «code_indented» ⌝ }
+// A sheet, read by a table of kinds, with 1,024 slots of each kind.
+pub fn read_small(text: &[u8], kinds: &[u8], code_indented: bool) -> Read
+    ensures { λ r. ⌜ r ≡ readOf (now (text .entry)) (now (kinds .entry)) «code_indented» ⌝ }
 {
     let mut raw = [Event::BLANK; 1024];
     let mut results = [Event::BLANK; 1024];
     let mut alignments = [0u8; 1024];
-    let answer = sheet(text, code_indented, &mut raw, &mut results, &mut alignments);
+    let answer = sheet(
+        text,
+        kinds,
+        code_indented,
+        &mut raw,
+        &mut results,
+        &mut alignments,
+    );
     Read {
         answer: answer,
         raw: raw,
@@ -35,6 +42,7 @@ pub fn read_small(text: &[u8], code_indented: bool) -> Read
 // A sheet, with the first n raw, m result and k alignment slots, or all where there are fewer.
 pub fn sheet_front(
     text: &[u8],
+    kinds: &[u8],
     code_indented: bool,
     n: usize,
     m: usize,
@@ -43,16 +51,17 @@ pub fn sheet_front(
     results: &mut [Event],
     alignments: &mut [u8],
 ) -> Sheet
-    ensures { λ r. ⌜ (r ≡ sheetOf (now (text .entry)) «code_indented» (leastOf n (length (now (raw .entry)))) (leastOf m (length (now (results .entry)))) (leastOf k (length (now (alignments .entry)))))
-        × ((now (raw .exit) ≡ leftRaw (now (text .entry)) «code_indented» n m k (now (raw .entry)) (now (results .entry)) (now (alignments .entry)))
-        × ((now (results .exit) ≡ leftResults (now (text .entry)) «code_indented» n m k (now (raw .entry)) (now (results .entry)) (now (alignments .entry)))
-        × (now (alignments .exit) ≡ leftAligned (now (text .entry)) «code_indented» n m k (now (raw .entry)) (now (results .entry)) (now (alignments .entry))))) ⌝ }
+    ensures { λ r. ⌜ (r ≡ sheetOf (now (text .entry)) (now (kinds .entry)) «code_indented» (leastOf n (length (now (raw .entry)))) (leastOf m (length (now (results .entry)))) (leastOf k (length (now (alignments .entry)))))
+        × ((now (raw .exit) ≡ leftRaw (now (text .entry)) (now (kinds .entry)) «code_indented» n m k (now (raw .entry)) (now (results .entry)) (now (alignments .entry)))
+        × ((now (results .exit) ≡ leftResults (now (text .entry)) (now (kinds .entry)) «code_indented» n m k (now (raw .entry)) (now (results .entry)) (now (alignments .entry)))
+        × (now (alignments .exit) ≡ leftAligned (now (text .entry)) (now (kinds .entry)) «code_indented» n m k (now (raw .entry)) (now (results .entry)) (now (alignments .entry))))) ⌝ }
 {
     let a = least(n, raw.len());
     let b = least(m, results.len());
     let c = least(k, alignments.len());
     sheet(
         text,
+        kinds,
         code_indented,
         &mut raw[..a],
         &mut results[..b],
@@ -61,14 +70,22 @@ pub fn sheet_front(
 }
 
 // A sheet, with n raw, m result and k alignment slots, each at most 1,024.
-pub fn read_parts(text: &[u8], code_indented: bool, n: usize, m: usize, k: usize) -> Read
-    ensures { λ r. ⌜ r ≡ partOf (now (text .entry)) «code_indented» n m k ⌝ }
+pub fn read_parts(
+    text: &[u8],
+    kinds: &[u8],
+    code_indented: bool,
+    n: usize,
+    m: usize,
+    k: usize,
+) -> Read
+    ensures { λ r. ⌜ r ≡ partOf (now (text .entry)) (now (kinds .entry)) «code_indented» n m k ⌝ }
 {
     let mut raw = [Event::BLANK; 1024];
     let mut results = [Event::BLANK; 1024];
     let mut alignments = [0u8; 1024];
     let answer = sheet_front(
         text,
+        kinds,
         code_indented,
         n,
         m,

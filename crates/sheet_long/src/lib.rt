@@ -1,10 +1,12 @@
-// The call of `sheet` with long local arrays, one in each function.
+// The call of `sheet` by the built-in table of kinds, with long local arrays, one in each function.
 use sheet::calls::Sheet;
 use sheet_buffers::sheet_front;
 use tokenizer::event::Event;
+use tokenizer::kinds::builtin;
 use tokenizer::slots::at_or_blank;
 ghost use mathlib.Core.Path.{_≡_};
 ghost use lib.ListN.{length};
+ghost use Rattle.tokenizer.specs.Bytes.{builtIn};
 ghost use Rattle.sheet.specs.Calls.{sheetOf, leastOf};
 ghost use Rattle.sheet_long.specs.Longs.{rawLeft, rawWith, resultsLeft, resultedOf, longOf};
 
@@ -31,12 +33,23 @@ pub fn with_alignments(
     raw: &mut [Event],
     results: &mut [Event],
 ) -> Sheet
-    ensures { λ r. ⌜ (r ≡ sheetOf (now (text .entry)) «code_indented» (leastOf n (length (now (raw .entry)))) (leastOf m (length (now (results .entry)))) (leastOf k 10240))
+    ensures { λ r. ⌜ (r ≡ sheetOf (now (text .entry)) builtIn «code_indented» (leastOf n (length (now (raw .entry)))) (leastOf m (length (now (results .entry)))) (leastOf k 10240))
         × ((now (raw .exit) ≡ rawLeft (now (text .entry)) «code_indented» n m k (now (raw .entry)) (now (results .entry)) 10240)
         × (now (results .exit) ≡ resultsLeft (now (text .entry)) «code_indented» n m k (now (raw .entry)) (now (results .entry)) 10240)) ⌝ }
 {
+    let kinds = builtin();
     let mut alignments = [0u8; 10240];
-    sheet_front(text, code_indented, n, m, k, raw, results, &mut alignments)
+    sheet_front(
+        text,
+        &kinds,
+        code_indented,
+        n,
+        m,
+        k,
+        raw,
+        results,
+        &mut alignments,
+    )
 }
 
 // A sheet, with the first n of lent slots, m result slots, at most 196,608, and k alignment slots, and the result at a place.

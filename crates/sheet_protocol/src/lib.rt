@@ -1,6 +1,10 @@
 // A sheet's answer, written to standard output in the line protocol: its numbers, and its groups of slots, of arrays of 1,024.
 use protocol::print;
+use protocol::words::bytes;
+use protocol::words::flag;
+use protocol::words::number;
 use sheet::calls::Sheet;
+use sheet_buffers::read_parts;
 use tokenizer::event::Event;
 ghost use Prim.Native.Nat.{_≤_};
 
@@ -98,4 +102,40 @@ pub fn alignments(list: [u8; 1024], n: usize) {
     numbers(list, m);
     print::text(b" +");
     print::number((n - m) as u64);
+}
+
+// The answer for a sheet that is read by a table of kinds, with n raw, m result and k alignment slots.
+fn reading(text: &[u8], kinds: &[u8], code_indented: bool, n: usize, m: usize, k: usize) {
+    let r = read_parts(text, kinds, code_indented, n, m, k);
+    let answer = r.answer;
+    let raw = r.raw;
+    let results = r.results;
+    let aligned = r.alignments;
+    sheet(answer);
+    slots(raw, n);
+    slots(results, m);
+    alignments(aligned, k);
+}
+
+// The answer to a request whose words for the sheet start at a place. At most 1,024 slots of each kind are lent.
+pub fn answer(line: &[u8], at: usize, kinds: &[u8]) {
+    let code_indented = flag(line, at);
+    let n = number(line, code_indented.next);
+    let m = number(line, n.next);
+    let k = number(line, m.next);
+    let mut text = [0u8; 4096];
+    let read = bytes(line, k.next, &mut text);
+    let length = read.count;
+    if !read.good || 1024 < n.value || 1024 < m.value || 1024 < k.value {
+        print::text(b"?");
+        return;
+    }
+    reading(
+        &text[..length],
+        kinds,
+        code_indented.value,
+        n.value as usize,
+        m.value as usize,
+        k.value as usize,
+    );
 }

@@ -11,7 +11,7 @@ use lib.Dec.{eqb}
 use lib.ListN.{length, drop, getD, length-append, length-drop}
 use lib.Seq.{drop-cons, drop-drop}
 use Rattle.tokenizer.specs.declared.event.Point.{Point}
-use Rattle.tokenizer.specs.Bytes.{kindOf, isEnd}
+use Rattle.tokenizer.specs.Bytes.{isEnd, Reads}
 use Rattle.tokenizer.specs.Points.{columnAfter, columnPast, past}
 use Rattle.tokenizer.specs.Lines.{lineBody}
 use Rattle.tokenizer.specs.Moves.{aheadOf, restOf, overAt, Inside, runOf}
@@ -20,32 +20,34 @@ use Rattle.tokenizer.proofs.Runs.{run-off}
 
 -- ## The line is at its end, or goes on
 
-pub ends : (u : List ℕ) → aheadOf kindOf u ≡ 2 → lineBody u ≡ []
-unfolding lineBody
-ends [] e = refl
-ends (b ∷ u) e = rw (is-end b e)
+module _ (kind : ℕ → ℕ) where
+  pub record Front (s : List ℕ) (i k : ℕ) : Type 0 where
+    pub below : i < length s
+    pub line : lineBody (drop i s) ≡ getD s i 0 ∷ lineBody (drop (i + 1) s)
+    pub is : kind (getD s i 0) ≡ k
 
-pub record Front (s : List ℕ) (i k : ℕ) : Type 0 where
-  pub below : i < length s
-  pub line : lineBody (drop i s) ≡ getD s i 0 ∷ lineBody (drop (i + 1) s)
-  pub kind : kindOf (getD s i 0) ≡ k
+  below : (s : List ℕ) (i : ℕ) → (aheadOf kind (drop i s) ≡ 2 → ⊥) → i < length s
+  below [] zero h = absurd (h refl)
+  below [] (suc i) h = absurd (h refl)
+  below (b ∷ s) zero h = omega arith
+  below (b ∷ s) (suc i) h = let l : i < length s = below s i h in omega arith
 
-below : (s : List ℕ) (i : ℕ) → (aheadOf kindOf (drop i s) ≡ 2 → ⊥) → i < length s
-below [] zero h = absurd (h refl)
-below [] (suc i) h = absurd (h refl)
-below (b ∷ s) zero h = omega arith
-below (b ∷ s) (suc i) h = let l : i < length s = below s i h in omega arith
+module _ {kind : ℕ → ℕ} (ok : Reads kind) where
+  pub ends : (u : List ℕ) → aheadOf kind u ≡ 2 → lineBody u ≡ []
+  unfolding lineBody
+  ends [] e = refl
+  ends (b ∷ u) e = rw (is-end ok b e)
 
-goes-on : (b : ℕ) (u : List ℕ) → (kindOf b ≡ 2 → ⊥) → lineBody (b ∷ u) ≡ b ∷ lineBody u
-unfolding lineBody
-goes-on b u h = rw (no-end b h)
+  goes-on : (b : ℕ) (u : List ℕ) → (kind b ≡ 2 → ⊥) → lineBody (b ∷ u) ≡ b ∷ lineBody u
+  unfolding lineBody
+  goes-on b u h = rw (no-end ok b h)
 
-pub goes : (s : List ℕ) (i k : ℕ) → k ≡ aheadOf kindOf (drop i s) → (k ≡ 2 → ⊥) → Front s i k
-goes s i k e h =
-    let l : i < length s = below s i (λ q. h (e ∙ q)) in
-    let d : drop i s ≡ getD s i 0 ∷ drop (i + 1) s = rw (add-one, drop-cons s i 0) in
-    let q : k ≡ kindOf (getD s i 0) = e ∙ ap (aheadOf kindOf) d in
-    record { below = l; line = ap lineBody d ∙ goes-on (getD s i 0) (drop (i + 1) s) (λ z. h (q ∙ z)); kind = sym q }
+  pub goes : (s : List ℕ) (i k : ℕ) → k ≡ aheadOf kind (drop i s) → (k ≡ 2 → ⊥) → Front kind s i k
+  goes s i k e h =
+      let l : i < length s = below kind s i (λ q. h (e ∙ q)) in
+      let d : drop i s ≡ getD s i 0 ∷ drop (i + 1) s = rw (add-one, drop-cons s i 0) in
+      let q : k ≡ kind (getD s i 0) = e ∙ ap (aheadOf kind) d in
+      record { below = l; line = ap lineBody d ∙ goes-on (getD s i 0) (drop (i + 1) s) (λ z. h (q ∙ z)); is = sym q }
 
 -- ## Points
 
@@ -113,12 +115,12 @@ runEnd run s q = past q (run (restOf s q))
 pub end-none : (run : List ℕ → List ℕ) (s : List ℕ) (q : Point) → Inside s q → run (restOf s q) ≡ [] → runEnd run s q ≡ q
 end-none run s q h e = rw e (past-none q (h .flat))
 
-module _ (s : List ℕ) (q : Point) (k : ℕ) (f : Front s (q .index) k) where
+module _ {kind : ℕ → ℕ} (s : List ℕ) (q : Point) (k : ℕ) (f : Front kind s (q .index) k) where
   pub over-inside : Inside s q → Inside s (overAt s q)
   over-inside h = inside-past s q (getD s (q .index) 0 ∷ []) (restOf s (overAt s q)) h (f .line)
 
-  pub end-over : (run run′ : List ℕ → List ℕ) → ((b : ℕ) (u : List ℕ) → kindOf b ≡ k → run (b ∷ u) ≡ b ∷ run′ u) → runEnd run′ s (overAt s q) ≡ runEnd run s q
-  end-over run run′ on = past-append q _ _ ∙ ap (past q) (sym (ap run (f .line) ∙ on _ _ (f .kind)))
+  pub end-over : (run run′ : List ℕ → List ℕ) → ((b : ℕ) (u : List ℕ) → kind b ≡ k → run (b ∷ u) ≡ b ∷ run′ u) → runEnd run′ s (overAt s q) ≡ runEnd run s q
+  end-over run run′ on = past-append q _ _ ∙ ap (past q) (sym (ap run (f .line) ∙ on _ _ (f .is)))
 
 -- after a run, what is left of the line is the rest
 module _ (run rest : List ℕ → List ℕ) (split : (u : List ℕ) → run u ++ rest u ≡ u) (s : List ℕ) (p : Point) where
@@ -133,15 +135,16 @@ module _ (run rest : List ℕ → List ℕ) (split : (u : List ℕ) → run u ++
 
 -- ## Where runs stop
 
-pub line-case : (b : ℕ) (u : List ℕ) (P : List ℕ → Type 0) → P [] → ((kindOf b ≡ 2 → ⊥) → P (b ∷ lineBody u)) → P (lineBody (b ∷ u))
-unfolding lineBody
-line-case b u P none more = go (isEnd b) refl
-  where
-    go : (t : Bool) → isEnd b ≡ t → P (cond t [] (b ∷ lineBody u))
-    go true e = none
-    go false e = more (λ z. true≢false (sym (is-end b z) ∙ e))
+module _ {kind : ℕ → ℕ} (ok : Reads kind) where
+  pub line-case : (b : ℕ) (u : List ℕ) (P : List ℕ → Type 0) → P [] → ((kind b ≡ 2 → ⊥) → P (b ∷ lineBody u)) → P (lineBody (b ∷ u))
+  unfolding lineBody
+  line-case b u P none more = go (isEnd b) refl
+    where
+      go : (t : Bool) → isEnd b ≡ t → P (cond t [] (b ∷ lineBody u))
+      go true e = none
+      go false e = more (λ z. true≢false (sym (is-end ok b z) ∙ e))
 
-pub run-stops : (k : ℕ) (u : List ℕ) → (aheadOf kindOf u ≡ k → ⊥) → runOf kindOf k (lineBody u) ≡ []
-unfolding lineBody runOf
-run-stops k [] h = refl
-run-stops k (b ∷ u) h = line-case b u (λ l. runOf kindOf k l ≡ []) refl (λ z. run-off kindOf k b (lineBody u) h)
+  pub run-stops : (k : ℕ) (u : List ℕ) → (aheadOf kind u ≡ k → ⊥) → runOf kind k (lineBody u) ≡ []
+  unfolding lineBody runOf
+  run-stops k [] h = refl
+  run-stops k (b ∷ u) h = line-case b u (λ l. runOf kind k l ≡ []) refl (λ z. run-off kind k b (lineBody u) h)

@@ -9,11 +9,10 @@ use lib.Dec.{eqb}
 use lib.ListN.{length, drop, length-drop}
 use lib.Seq.{drop-drop}
 use Rattle.tokenizer.specs.declared.event.Point.{Point}
-use Rattle.tokenizer.specs.Bytes.{kindOf, isEnd}
+use Rattle.tokenizer.specs.Bytes.{isEnd, Reads}
 use Rattle.tokenizer.specs.Points.{past}
 use Rattle.tokenizer.specs.Lines.{startsLF, lineBody, endAt, isEmpty, indent, unindented, blank}
 use Rattle.tokenizer.specs.Moves.{aheadOf, restOf, lineAt, after, Inside}
-use Rattle.tokenizer.proofs.Bytes.{end-kind}
 use Rattle.tokenizer.proofs.Runs.{space-split}
 use Rattle.tokenizer.proofs.Ahead.{inside-past, rest-past, runEnd, rest-end}
 
@@ -60,16 +59,17 @@ module _ (s : List ℕ) (p : Point) where
 
 -- ## Blank lines
 
-empty-ahead : (u : List ℕ) → isEmpty (lineBody u) ≡ eqb (aheadOf kindOf u) 2
-unfolding lineBody
-empty-ahead [] = refl
-empty-ahead (b ∷ u) = go (isEnd b) ∙ sym (end-kind b)
-  where
-    go : (t : Bool) → isEmpty (cond t [] (b ∷ lineBody u)) ≡ t
-    go true = refl
-    go false = refl
+module _ {kind : ℕ → ℕ} (ok : Reads kind) where
+  empty-ahead : (u : List ℕ) → isEmpty (lineBody u) ≡ eqb (aheadOf kind u) 2
+  unfolding lineBody
+  empty-ahead [] = refl
+  empty-ahead (b ∷ u) = go (isEnd b) ∙ sym (ok .ends b)
+    where
+      go : (t : Bool) → isEmpty (cond t [] (b ∷ lineBody u)) ≡ t
+      go true = refl
+      go false = refl
 
--- a line is blank where whitespace leads to its end
-pub blank-ahead : (s : List ℕ) (p : Point) → blank kindOf (restOf s p) ≡ eqb (aheadOf kindOf (drop (runEnd (indent kindOf) s p .index) s)) 2
-blank-ahead s p =
-    ap isEmpty (sym (rest-end (indent kindOf) (unindented kindOf) (space-split kindOf) s p)) ∙ empty-ahead (drop (runEnd (indent kindOf) s p .index) s)
+  -- a line is blank where whitespace leads to its end
+  pub blank-ahead : (s : List ℕ) (p : Point) → blank kind (restOf s p) ≡ eqb (aheadOf kind (drop (runEnd (indent kind) s p .index) s)) 2
+  blank-ahead s p =
+      ap isEmpty (sym (rest-end (indent kind) (unindented kind) (space-split kind) s p)) ∙ empty-ahead (drop (runEnd (indent kind) s p .index) s)

@@ -1,6 +1,7 @@
 -- What the proofs of this crate and of those above it use.
 pub mod Table
 pub mod Bytes
+pub mod KindTables
 pub mod Runs
 pub mod Ahead
 pub mod Ends

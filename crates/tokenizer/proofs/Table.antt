@@ -2,14 +2,9 @@
 -- Assumes nothing.
 use Prim.Native.Nat.{ℕ, zero, suc, _+_, _<_}
 use mathlib.Core.Path.{_≡_, ap, sym, _∙_}
-use mathlib.Core.List.{List, [], _∷_}
 use native.Mathlib.Nat.{add-zero, zero-add, add-suc, suc-add, le-of-suc-le-suc, not-suc-le-zero}
 use lib.ListN.{getD}
-
--- the values of a rule at i and the n - 1 numbers after it
-unfoldable pub tabulated : (ℕ → ℕ) → ℕ → ℕ → List ℕ
-tabulated rule i zero = []
-tabulated rule i (suc n) = rule i ∷ tabulated rule (suc i) n
+use Rattle.tokenizer.specs.Bytes.{tabulated}
 
 from : (rule : ℕ → ℕ) (i n k : ℕ) → k < n → getD (tabulated rule i n) k 0 ≡ rule (i + k)
 unfolding tabulated

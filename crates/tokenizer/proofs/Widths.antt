@@ -11,13 +11,13 @@ use lib.Dec.{eqb, leb}
 use lib.ListN.{length, drop}
 use lib.Seq.{drop-drop}
 use Rattle.tokenizer.specs.declared.event.Point.{Point}
-use Rattle.tokenizer.specs.Bytes.{kindOf, isEnd}
+use Rattle.tokenizer.specs.Bytes.{kindOf, isEnd, Reads}
 use Rattle.tokenizer.specs.Points.{columnAfter, columnPast, past}
 use Rattle.tokenizer.specs.Lines.{lineBody, indent}
 use Rattle.tokenizer.specs.Feed.{unitOf}
 use Rattle.tokenizer.specs.Spaces.{spaceAt, nextUnit, spacesPast, spaceEnds}
 use Rattle.tokenizer.specs.Moves.{aheadOf, restOf}
-use Rattle.tokenizer.proofs.Bytes.{no-end}
+use Rattle.tokenizer.proofs.Bytes.{built, no-end, same-space}
 use Rattle.tokenizer.proofs.Runs.{space-on}
 use Rattle.tokenizer.proofs.Ahead.{past-none, past-append}
 
@@ -136,7 +136,7 @@ blank s (suc n) p b v e q d f i g k l =
 
 indent-on : (b : ℕ) (u : List ℕ) → kindOf b ≡ 1 → indent kindOf (lineBody (b ∷ u)) ≡ b ∷ indent kindOf (lineBody u)
 unfolding lineBody
-indent-on b u e = rw (no-end b (λ z. absurd (let y : _≡_ {A = ℕ} 1 2 = sym e ∙ z in omega arith))) (space-on kindOf b (lineBody u) e)
+indent-on b u e = rw (no-end built b (λ z. absurd (let y : _≡_ {A = ℕ} 1 2 = sym e ∙ z in omega arith))) (space-on kindOf b (lineBody u) e)
 
 indent-off : (b : ℕ) (u : List ℕ) → eqb (kindOf b) 1 ≡ false → indent kindOf (lineBody (b ∷ u)) ≡ []
 unfolding lineBody indent
@@ -170,7 +170,7 @@ front s n p b v w d f k = go (eqb b 9) refl (λ m. subst (λ (q : Point). Runs s
         (λ m. subst (λ (c : ℕ). Runs s m (behind p c) e (past p (b ∷ w))) x (r m))
         (omega (arith, bytes-wide (columnAfter (p .column) b) w))
     go false z r =
-        blank s n p b v e (past p (b ∷ w)) d (eq-eqb (kindOf b) 1 f) (no-end b (λ y. absurd (let o : _≡_ {A = ℕ} 1 2 = sym f ∙ y in omega arith))) z r
+        blank s n p b v e (past p (b ∷ w)) d (eq-eqb (kindOf b) 1 f) (no-end built b (λ y. absurd (let o : _≡_ {A = ℕ} 1 2 = sym f ∙ y in omega arith))) z r
         (omega (arith, after-more (p .column) b, bytes-wide (columnAfter (p .column) b) w))
 
 pub widths : (u : List ℕ) (s : List ℕ) (n : ℕ) (p : Point) → drop (p .index) s ≡ u → p .vs ≡ 0 → Widths s n p (white u)
@@ -189,9 +189,14 @@ run-whole s n p f = widths (drop (p .index) s) s n p refl f .whole
 pub run-part : (s : List ℕ) (n : ℕ) (p : Point) → p .vs ≡ 0 → p .column + n < columnPast (p .column) (indent kindOf (restOf s p)) → spaceAt s (spacesPast s n p) ≡ true
 run-part s n p f = widths (drop (p .index) s) s n p refl f .part
 
--- so whether whitespace ends within n units is told by the column that its bytes lead to
-pub ends-within : (s : List ℕ) (n : ℕ) (p : Point) → p .vs ≡ 0 → spaceEnds s n p ≡ leb (columnPast (p .column) (indent kindOf (restOf s p))) (p .column + n)
-ends-within s n p f = go (leb e (p .column + n)) refl
+pub same-indent : {kind : ℕ → ℕ} (ok : Reads kind) (u : List ℕ) → indent kindOf u ≡ indent kind u
+unfolding indent
+same-indent ok [] = refl
+same-indent {kind} ok (b ∷ u) = rw (same-space ok b) (ap (λ (r : List ℕ). cond (eqb (kind b) 1) (b ∷ r) []) (same-indent ok u))
+
+-- so whether whitespace ends within n units is told by the column that its bytes lead to, by any kinds
+pub ends-within : {kind : ℕ → ℕ} → Reads kind → (s : List ℕ) (n : ℕ) (p : Point) → p .vs ≡ 0 → spaceEnds s n p ≡ leb (columnPast (p .column) (indent kind (restOf s p))) (p .column + n)
+ends-within ok s n p f = go (leb e (p .column + n)) refl ∙ ap (λ (w : List ℕ). leb (columnPast (p .column) w) (p .column + n)) (same-indent ok (restOf s p))
   where
     e : ℕ
     e = columnPast (p .column) (indent kindOf (restOf s p))

@@ -1,4 +1,5 @@
 pub mod Bytes
+pub mod Tallies
 pub mod Points
 pub mod Events
 pub mod Slots

@@ -1,12 +1,13 @@
 // Lines: where they start, where they end, and their numbers.
 use crate::event::Point;
+use crate::kinds::END;
 use crate::moves::ahead;
 use crate::moves::kind_at;
 use crate::moves::space_end;
 ghost use mathlib.Core.Path.{_≡_};
 ghost use Prim.Native.Nat.{_≤_, _+_};
 ghost use lib.ListN.{length, drop};
-ghost use Rattle.tokenizer.specs.Bytes.{kindOf};
+ghost use Rattle.tokenizer.specs.Bytes.{kindIn, Passes};
 ghost use Rattle.tokenizer.specs.Lines.{startsLF, lineBody, endAt, firstStart, endsLine, startsLine, lineNumber, blank};
 ghost use Rattle.tokenizer.specs.Places.{firstPoint};
 ghost use Rattle.tokenizer.specs.Moves.{Inside, restOf};
@@ -43,24 +44,25 @@ pub fn end_at(s: &[u8], p: Point) -> u32
     line_end(s, p.index as usize)
 }
 
-// Where the bytes of the line end that a place lies in.
-pub fn line_stop(s: &[u8], at: usize) -> usize
+// Where the bytes of the line end that a place lies in: kind 2 is that of the bytes 10 and 13.
+pub fn line_stop(s: &[u8], kinds: &[u8], at: usize) -> usize
+    requires { ⌜ Passes (now kinds) ⌝ }
     ensures { λ r. ⌜ r ≡ at + length (lineBody (drop at (now (s .entry)))) ⌝ }
 {
     let mut i = at;
-    while kind_at(s, i) != 2 {
+    while kind_at(s, kinds, i) != END {
         i += 1;
     }
     i
 }
 
 // Whether the line has nothing but spaces and tabs from a point on.
-pub fn is_blank(s: &[u8], p: Point) -> bool
-    requires { ⌜ Inside (now s) p ⌝ }
-    ensures { λ r. ⌜ r ≡ blank kindOf (restOf (now (s .entry)) p) ⌝ }
+pub fn is_blank(s: &[u8], kinds: &[u8], p: Point) -> bool
+    requires { ⌜ Inside (now s) p × Passes (now kinds) ⌝ }
+    ensures { λ r. ⌜ r ≡ blank (kindIn (now (kinds .entry))) (restOf (now (s .entry)) p) ⌝ }
 {
-    let q = space_end(s, p);
-    ahead(s, q) == 2
+    let q = space_end(s, kinds, p);
+    ahead(s, kinds, q) == 2
 }
 
 // Whether a line end is complete with the byte b, where the sheet goes on at a place.

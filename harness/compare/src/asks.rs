@@ -3,7 +3,7 @@
 use crate::case::Case;
 use crate::expected::{crate_edit, crate_flags, of_sheet};
 use crate::tally::Tally;
-use harness::calls::{self, SheetSlots};
+use harness::calls::{self, Sheet, SheetSlots};
 use harness::guard::guarded;
 use harness::kept::{slot_choices, PLENTY};
 use harness::questions::Edit;
@@ -65,11 +65,29 @@ pub fn align(tally: &mut Tally, list: &[Record], index: usize) {
     each_choice(tally, needed, |slots| Case::Align { list, index, slots });
 }
 
-/// A sheet. Where nothing is needed, spare slots only; where it is long, exactly enough and one other choice.
+/// Slots enough for any sheet.
+const PLENTY_OF_EACH: SheetSlots = SheetSlots { raw: PLENTY, results: PLENTY, alignments: PLENTY };
+
+/// A sheet; where it is long, a number that chooses slots.
 pub fn sheet(tally: &mut Tally, sheet: &[u8], code_indented: bool, long: Option<usize>) {
-    let plenty = SheetSlots { raw: PLENTY, results: PLENTY, alignments: PLENTY };
-    let case = |slots| Case::Sheet { sheet, code_indented, slots };
-    let read = match guarded(|| calls::sheet(sheet, code_indented, &plenty)) {
+    let read = guarded(|| calls::sheet(sheet, code_indented, &PLENTY_OF_EACH));
+    each_sheet_choice(tally, read, long, |slots| Case::Sheet { sheet, code_indented, slots });
+}
+
+/// A sheet with a table of kinds.
+pub fn sheet_with(tally: &mut Tally, kinds: &[u8], sheet: &[u8], code_indented: bool, long: Option<usize>) {
+    let read = guarded(|| calls::sheet_with(kinds, sheet, code_indented, &PLENTY_OF_EACH));
+    each_sheet_choice(tally, read, long, |slots| Case::Kinds { kinds, sheet, code_indented, slots });
+}
+
+/// Each choice of slots. Where nothing is needed, spare slots only; where it is long, exactly enough and one other choice.
+fn each_sheet_choice<'a>(
+    tally: &mut Tally,
+    read: Result<Result<Sheet, u8>, String>,
+    long: Option<usize>,
+    case: impl Fn([usize; 3]) -> Case<'a>,
+) {
+    let read = match read {
         Ok(Ok(read)) => read,
         Ok(Err(number)) => return tally.compare(&case([2, 1, 3]), &case([2, 1, 3]).refused(number)),
         Err(_) => return tally.ask(&case([2, 1, 3])),

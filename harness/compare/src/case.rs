@@ -1,10 +1,11 @@
 //! A call with its arguments, as both readers get it, and what came back.
 
+use harness::kinds;
 use harness::print;
 use harness::record::Record;
 use poolsheet::{Event, Five, HeadFlags};
 
-/// One of the six calls, with the number of slots lent.
+/// One of the six calls, with the number of slots lent; `Kinds` is the sheet call with a table of kinds.
 #[derive(Clone, Copy, Debug)]
 pub enum Case<'a> {
     Head { sheet: &'a [u8], offset: usize, flags: HeadFlags, slots: usize },
@@ -13,6 +14,7 @@ pub enum Case<'a> {
     Edit { list: &'a [Record], edits: &'a [Five], pool: &'a [Record], slots: usize },
     Align { list: &'a [Record], index: usize, slots: usize },
     Sheet { sheet: &'a [u8], code_indented: bool, slots: [usize; 3] },
+    Kinds { kinds: &'a [u8], sheet: &'a [u8], code_indented: bool, slots: [usize; 3] },
 }
 
 /// An answer: its number, its counts, and every slot after the call.
@@ -50,6 +52,10 @@ impl Case<'_> {
                 let code = u8::from(code_indented);
                 format!("sheet {code} {raw} {results} {alignments} {}", print::bytes(sheet))
             }
+            Case::Kinds { kinds, sheet, code_indented, slots: [raw, results, alignments] } => {
+                let (table, code) = (print::kinds(kinds), u8::from(code_indented));
+                format!("kinds {table} {code} {raw} {results} {alignments} {}", print::bytes(sheet))
+            }
         }
     }
 
@@ -57,6 +63,7 @@ impl Case<'_> {
     pub fn size(&self) -> usize {
         match self {
             Case::Head { sheet, .. } | Case::Row { sheet, .. } | Case::Sheet { sheet, .. } => sheet.len(),
+            Case::Kinds { kinds, sheet, .. } => sheet.len() + kinds::changes(kinds).len(),
             Case::Resolve { list, .. } | Case::Align { list, .. } => list.len(),
             Case::Edit { list, edits, pool, .. } => list.len() + edits.len() + pool.len(),
         }
@@ -70,7 +77,7 @@ impl Case<'_> {
             Case::Row { slots, .. } => (2, vec![blank(slots)], None),
             Case::Resolve { slots, .. } | Case::Edit { slots, .. } => (1, vec![blank(slots)], None),
             Case::Align { slots, .. } => (1, vec![], Some(vec![0; slots])),
-            Case::Sheet { slots: [raw, results, values], .. } => {
+            Case::Sheet { slots: [raw, results, values], .. } | Case::Kinds { slots: [raw, results, values], .. } => {
                 (4, vec![blank(raw), blank(results)], Some(vec![0; values]))
             }
         };

@@ -4,6 +4,7 @@ use crate::asks;
 use crate::tally::Tally;
 use harness::bom::BOM;
 use harness::kept::lists::{self, pair};
+use harness::kinds::{self, BUILT_IN};
 use harness::record::{
     Record, DATA, DELIMITER_ROW, DIVIDER, FILLER, HEAD, LINE_ENDING, MARKER, ROW, SPACE_OR_TAB, TABLE, VALUE,
 };
@@ -69,6 +70,61 @@ pub fn remarks(tally: &mut Tally, length: usize, part: Part) {
 /// Sheets of so many parts of those with marks.
 pub fn marks(tally: &mut Tally, length: usize, part: Part) {
     sheets_of(&MARK_PARTS, tally, length, part);
+}
+
+/// The bytes of sheets that are read under other kinds.
+const KIND_BYTES: &[u8; 7] = b"a;|-=\\\n";
+
+/// Bytes whose kinds are exchanged in the built-in table, one pair after the other.
+const EXCHANGES: [&[[u8; 2]]; 9] = [
+    &[[b'|', b';']],
+    &[[b'-', b'=']],
+    &[[b'|', b';'], [b'-', b'=']],
+    &[[b'\\', b';']],
+    &[[b'|', b'\\']],
+    &[[b'|', b'-']],
+    &[[b':', b'a']],
+    &[[b'|', b';'], [b':', b'=']],
+    &[[b'|', b';'], [b'\\', b'|'], [b'-', b'='], [b':', b'a']],
+];
+
+/// Sheets of a length under each of these tables, with both options.
+pub fn kinds(tally: &mut Tally, length: usize, part: Part) {
+    for pairs in EXCHANGES {
+        let mut kinds = BUILT_IN;
+        pairs.iter().for_each(|&[one, other]| kinds.swap(one.into(), other.into()));
+        each_word(KIND_BYTES, length, part, |sheet| {
+            asks::sheet_with(tally, &kinds, sheet, true, None);
+            asks::sheet_with(tally, &kinds, sheet, false, None);
+        });
+    }
+}
+
+/// Every table that differs from the built-in one in one entry, or in two that are exchanged, with a sheet in its own bytes where it passes;
+/// every number of entries up to 300, also with a sheet that is too long.
+pub fn changed_kinds(tally: &mut Tally, part: Part) {
+    let sheet = b"a\\|>|b\n:-|-\n> c";
+    let bytes: Vec<u8> = (0..=u8::MAX).collect();
+    each_word(&bytes, 2, part, |pair| {
+        let (byte, other) = (usize::from(pair[0]), usize::from(pair[1]));
+        let (mut changed, mut exchanged) = (BUILT_IN, BUILT_IN);
+        changed[byte] = pair[1];
+        exchanged.swap(byte, other);
+        asks::sheet_with(tally, &changed, sheet, true, None);
+        if exchanged == BUILT_IN {
+            return;
+        }
+        asks::sheet_with(tally, &exchanged, sheet, true, None);
+        if [9, 10, 13, 32, 62].iter().all(|&byte| exchanged[byte] == BUILT_IN[byte]) {
+            asks::sheet_with(tally, &exchanged, &kinds::written(sheet, &exchanged), true, None);
+        }
+    });
+    for entries in (part.mine..=300).step_by(part.of) {
+        let mut kinds = BUILT_IN.to_vec();
+        kinds.resize(entries, 0);
+        asks::sheet_with(tally, &kinds, sheet, true, None);
+        asks::sheet_with(tally, &kinds, &[b'a'; 65_537], true, None);
+    }
 }
 
 /// Heads and rows at every offset of such sheets, the lines lazy or not.

@@ -34,7 +34,12 @@ fn accepted(case: &Case) -> Result<Answer, u8> {
             let counts = vec![alignments.len()];
             Ok(Answer { alignments: Some(narrow(&alignments, slots)), ..of_events(counts, vec![]) })
         }
-        Case::Sheet { sheet, code_indented, slots } => accepted_sheet(sheet, code_indented, slots),
+        Case::Sheet { sheet, code_indented, slots } => {
+            Ok(of_sheet(&calls::sheet(sheet, code_indented, &sheet_slots(slots))?, slots))
+        }
+        Case::Kinds { kinds, sheet, code_indented, slots } => {
+            Ok(of_sheet(&calls::sheet_with(kinds, sheet, code_indented, &sheet_slots(slots))?, slots))
+        }
     }
 }
 
@@ -56,10 +61,9 @@ pub fn crate_edit(five: &Five) -> Edit {
     harness::read::edit(&five.map(|number| number as u64))
 }
 
-fn accepted_sheet(sheet: &[u8], code_indented: bool, slots: [usize; 3]) -> Result<Answer, u8> {
+fn sheet_slots(slots: [usize; 3]) -> SheetSlots {
     let [raw, results, alignments] = slots.map(|slots| slots as u64);
-    let read = calls::sheet(sheet, code_indented, &SheetSlots { raw, results, alignments })?;
-    Ok(of_sheet(&read, slots))
+    SheetSlots { raw, results, alignments }
 }
 
 /// The answer with a sheet's reading in so many slots.

@@ -14,9 +14,11 @@ mod ours;
 mod sheets;
 mod tally;
 
+use case::Case;
 use exhaustive::Part;
 use harness::bom::{unmarked, Unmarked};
-use harness::kept::random::Random;
+use harness::kept::{self, random::Random};
+use harness::kinds;
 use harness::lines::lines;
 use poolsheet::HeadFlags;
 use std::process::ExitCode;
@@ -69,7 +71,8 @@ fn in_threads(name: &str, total: &mut Tally, work: impl Fn(&mut Tally, Part) + S
 /// Every short input of each kind.
 fn compare_exhaustively(total: &mut Tally) {
     type Work = fn(&mut Tally, usize, Part);
-    let kinds: [(&str, usize, Work); 10] = [
+    in_threads("tables of kinds, one or two entries changed", total, exhaustive::changed_kinds);
+    let inputs: [(&str, usize, Work); 11] = [
         ("resolve, records,", 4, exhaustive::resolve_records),
         ("resolve, pieces a row,", 7, exhaustive::resolve_tables),
         ("align, records,", 7, exhaustive::align_records),
@@ -77,11 +80,12 @@ fn compare_exhaustively(total: &mut Tally) {
         ("all shapes, 65,536 bytes and", 1, exhaustive::longest_sheets),
         ("heads and rows, bytes,", 6, exhaustive::heads_and_rows),
         ("heads and rows, parts with marks,", 4, exhaustive::marked_lines),
+        ("sheets with kinds, bytes,", 6, exhaustive::kinds),
         ("sheets, parts with marks,", 6, exhaustive::marks),
         ("sheets, parts with remarks,", 8, exhaustive::remarks),
         ("sheets, bytes,", 8, exhaustive::sheets),
     ];
-    for (name, longest, work) in kinds {
+    for (name, longest, work) in inputs {
         for length in 0..=longest {
             in_threads(&format!("{name} {length}"), total, |tally, part| work(tally, length, part));
         }
@@ -105,7 +109,7 @@ fn compare_at_random(total: &mut Tally, seed: u64, minutes: f64) {
 }
 
 fn random_case(tally: &mut Tally, random: &mut Random) {
-    match random.below(10) {
+    match random.below(13) {
         0..=3 => random_sheet(tally, random),
         4 | 5 => random_lines(tally, random),
         6 => asks::resolve(tally, &lists::to_resolve(random)),
@@ -113,6 +117,8 @@ fn random_case(tally: &mut Tally, random: &mut Random) {
             let (list, index) = lists::to_align(random);
             asks::align(tally, &list, index);
         }
+        8 | 9 => random_sheet_with(tally, random),
+        10 => random_kinds(tally, random),
         _ => {
             let lists::ToEdit { list, edits, pool } = lists::to_edit(random);
             asks::edit(tally, &list, &edits, &pool);
@@ -124,6 +130,21 @@ fn random_sheet(tally: &mut Tally, random: &mut Random) {
     let sheet = sheets::any(random);
     let long = (sheet.len() > 500).then(|| random.below(8) as usize);
     asks::sheet(tally, &sheet, random.percent(60), long);
+}
+
+/// A sheet with a table of kinds that passes: mostly in the table's own bytes.
+fn random_sheet_with(tally: &mut Tally, random: &mut Random) {
+    let (kinds, sheet) = (kept::kinds::passing(random), sheets::any(random));
+    let sheet = if random.percent(80) { kinds::written(&sheet, &kinds) } else { sheet };
+    let long = (sheet.len() > 500).then(|| random.below(8) as usize);
+    asks::sheet_with(tally, &kinds, &sheet, random.percent(60), long);
+}
+
+/// A sheet with a table of kinds that mostly does not pass, and any slots.
+fn random_kinds(tally: &mut Tally, random: &mut Random) {
+    let (kinds, sheet) = (kept::kinds::any(random), sheets::any(random));
+    let slots = [40, 60, 5].map(|limit| random.below(limit) as usize);
+    tally.ask(&Case::Kinds { kinds: &kinds, sheet: &sheet, code_indented: random.percent(60), slots });
 }
 
 /// Heads and rows at some line starts of a sheet, at one of the first offsets, and at some other.
@@ -159,7 +180,8 @@ fn main() -> ExitCode {
         compare_exhaustively(&mut total);
     }
     compare_at_random(&mut total, asked.seed, asked.minutes);
-    let numbers: Vec<String> = (0..).zip(total.by_number).map(|(number, count)| format!("{number}: {count}")).collect();
+    let counted = (0..).zip(total.by_number).filter(|(_, count)| *count > 0);
+    let numbers: Vec<String> = counted.map(|(number, count)| format!("{number}: {count}")).collect();
     eprintln!("answers by number: {}", numbers.join(", "));
     if let Some(smallest) = total.smallest() {
         println!("smallest difference\n{smallest}");

@@ -56,7 +56,10 @@ pub fn ours(case: &Case) -> Answer {
         Case::Resolve { list, slots } => resolve(list, slots),
         Case::Edit { list, edits, pool, slots } => edit(list, edits, pool, slots),
         Case::Align { list, index, slots } => align(list, index, slots),
-        Case::Sheet { sheet, code_indented, slots } => read_sheet(sheet, code_indented, slots),
+        Case::Sheet { sheet, code_indented, slots } => {
+            read_sheet(slots, |slots, counts| poolsheet::sheet(sheet, code_indented, slots, counts))
+        }
+        Case::Kinds { kinds, sheet, code_indented, slots } => read_sheet_with(kinds, sheet, code_indented, slots),
     }
 }
 
@@ -102,11 +105,22 @@ fn align(records: &[Record], index: usize, slots: usize) -> Answer {
     Answer { number, counts: counts.to_vec(), events: vec![], alignments: Some(alignments), edits: None, overrun }
 }
 
-fn read_sheet(sheet: &[u8], code_indented: bool, slots: [usize; 3]) -> Answer {
+/// The sheet call with a table of kinds, behind which junk stands too.
+fn read_sheet_with(kinds: &[u8], sheet: &[u8], code_indented: bool, slots: [usize; 3]) -> Answer {
+    let mut table = Slots::new(kinds.len(), JUNK);
+    table.lent().copy_from_slice(kinds);
+    let lent = table.lent();
+    let answer = read_sheet(slots, |slots, counts| poolsheet::sheet_with(lent, sheet, code_indented, slots, counts));
+    let (left, beyond) = table.after();
+    Answer { overrun: answer.overrun || beyond || left != kinds, ..answer }
+}
+
+/// The answer of the sheet call.
+fn read_sheet(slots: [usize; 3], call: impl Fn(&mut SheetSlots, &mut [usize; 4]) -> u8) -> Answer {
     let (mut raw, mut results) = (event_slots(slots[0]), event_slots(slots[1]));
     let (mut values, mut counts) = (Slots::new(slots[2], JUNK), [JUNK_COUNT; 4]);
     let mut lent = SheetSlots { raw: raw.lent(), results: results.lent(), alignments: values.lent() };
-    let number = poolsheet::sheet(sheet, code_indented, &mut lent, &mut counts);
+    let number = call(&mut lent, &mut counts);
     let ((raw, one), (results, two), (alignments, three)) = (raw.after(), results.after(), values.after());
     Answer {
         number,

@@ -11,7 +11,7 @@ pub struct Tally {
     pub compared: u64,
     pub differ: u64,
     /// How often each number was the harness's answer, 0 for accepted.
-    pub by_number: [u64; 15],
+    pub by_number: [u64; 23],
     smallest: Option<Difference>,
 }
 

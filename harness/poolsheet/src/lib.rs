@@ -3,6 +3,7 @@
 
 use poolsheet::ffi as c;
 pub use poolsheet::Event;
+use poolsheet::KINDS;
 
 /// An edit: position, removed, pool start, pool count, before (0 is no).
 pub type Five = [usize; 5];
@@ -61,14 +62,34 @@ pub struct SheetSlots<'a> {
     pub alignments: &'a mut [u8],
 }
 
-/// Sheet; counts are tables, raw events, results, alignments.
+/// Sheet with the built-in kinds; counts are tables, raw events, results, alignments.
 pub fn sheet(sheet: &[u8], code_indented: bool, slots: &mut SheetSlots, counts: &mut [usize; 4]) -> u8 {
-    let (raw, raw_len) = (slots.raw.as_mut_ptr(), slots.raw.len());
-    let (results, results_len) = (slots.results.as_mut_ptr(), slots.results.len());
-    let (aligns, aligns_len) = (slots.alignments.as_mut_ptr(), slots.alignments.len());
-    let (from, len) = (sheet.as_ptr(), sheet.len());
+    sheet_with(&KINDS, sheet, code_indented, slots, counts)
+}
+
+/// Sheet with a table of kinds.
+pub fn sheet_with(
+    kinds: &[u8],
+    sheet: &[u8],
+    code_indented: bool,
+    slots: &mut SheetSlots,
+    counts: &mut [usize; 4],
+) -> u8 {
     // SAFETY: as in `head`.
     unsafe {
-        c::poolsheet_sheet(from, len, code_indented, raw, raw_len, results, results_len, aligns, aligns_len, counts)
+        c::poolsheet_sheet(
+            sheet.as_ptr(),
+            sheet.len(),
+            kinds.as_ptr(),
+            kinds.len(),
+            code_indented,
+            slots.raw.as_mut_ptr(),
+            slots.raw.len(),
+            slots.results.as_mut_ptr(),
+            slots.results.len(),
+            slots.alignments.as_mut_ptr(),
+            slots.alignments.len(),
+            counts,
+        )
     }
 }

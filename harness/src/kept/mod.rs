@@ -3,6 +3,7 @@
 pub mod aligns;
 pub mod edits;
 pub mod heads;
+pub mod kinds;
 pub mod lists;
 pub mod random;
 pub mod rows;
@@ -56,7 +57,7 @@ pub fn slot_choices(needed: Option<u64>, spare: bool) -> Vec<u64> {
     choices
 }
 
-/// All kinds, in the order of the calls in 01.
+/// All requests: the calls in the order of 01, then the sheet call with a table of kinds.
 pub fn all() -> Vec<Kept> {
-    vec![heads::kept(), rows::kept(), lists::kept(), edits::kept(), aligns::kept(), sheets::kept()]
+    vec![heads::kept(), rows::kept(), lists::kept(), edits::kept(), aligns::kept(), sheets::kept(), kinds::kept()]
 }

@@ -7,6 +7,7 @@ use Rattle.tokenizer.proofs.Types.{Ev, ev, ev-ty, ev-is}
 use mathlib.Core.Bool.{_||_}
 use lib.ListN.{replicate, length-replicate}
 use Rattle.tokenizer.specs.Events.{blankEvent}
+use Rattle.tokenizer.specs.Bytes.{kindOf}
 use Rattle.gfm_table.specs.Calls.{headOf, headSlots}
 use Rattle.buffers.specs.Buffers.{leastOf, blanks, headSmallWith, headSmallOf}
 use Rattle.buffers.proofs.head_front as head-front
@@ -53,10 +54,10 @@ module _ {M : Type 1} (𝓤 : URA M) (H : Heap 𝓤) (A : Atoms 𝓤) (W : Given
 
     -- what each call returns, and what it leaves
     abbrev r1 : He .Denot
-    r1 = headOf sheet off on (lz || pc) (leastOf n (length (blanks 256)))
+    r1 = headOf kindOf sheet off on (lz || pc) (leastOf n (length (blanks 256)))
 
     abbrev a71 : List (Ev .Denot)
-    a71 = headSlots sheet off on (lz || pc) (leastOf n (length (blanks 256))) ++ dropN (leastOf n (length (blanks 256))) (blanks 256)
+    a71 = headSlots kindOf sheet off on (lz || pc) (leastOf n (length (blanks 256))) ++ dropN (leastOf n (length (blanks 256))) (blanks 256)
 
     module _ (𝓣 : Tables 𝓤 H) (known-head-front : Triple 𝓤 (𝓣 .C #buffers·head-front) (HeadFront′ 𝓤 H A mem run′)) (l₀ l₁ l₂ l₃ l₄ l₅ l₆ l₇ l₈ l₉ l₁₀ l₁₁ l₁₂ : ℕ) where
       abbrev C : Calls 𝓤 H

@@ -9,6 +9,7 @@ use denote.Index.{place}
 use mathlib.Core.Bool.{_||_}
 use Rattle.tokenizer.proofs.Firsts as FI
 use lib.Seq.{length-take-le}
+use Rattle.tokenizer.specs.Bytes.{kindOf}
 use Rattle.gfm_table.specs.Calls.{rowOf, rowSlots}
 use Rattle.buffers.specs.Buffers.{leastOf}
 use Rattle.buffers.proofs.least as least
@@ -65,7 +66,7 @@ module _ {M : Type 1} (𝓤 : URA M) (H : Heap 𝓤) (A : Atoms 𝓤) (W : Given
     abbrev Post : Val → SProp 𝓤
     Post = walkOf 𝓤 H A row-front.ended stayed (row-front.clauses 𝓤 H A mem run′) .post (((κ, (κ′, tt)), (q, (q′, tt)), tt, x, vs), tt)
 
-    exits : (zs′ : List (Ev .Denot)) (zs′-len : length zs′ ≡ length ys) (r : Ro .Denot) (r-ok : Is Ro r (vals ro r)) (said : (r ≡ rowOf sheet off lz (leastOf n (length ys))) × (zs′ ≡ rowSlots sheet off lz (leastOf n (length ys)) ++ dropN (leastOf n (length ys)) ys)) → ent 𝓤 (⋆ 𝓤 H A (‵ (Shr u8 κ b o (length sheet) γ sheet) ∷ ‵ (flft κ q) ∷ ‵ (Mut Ev κ′ b′ o′ (length ys) γ′ zs′) ∷ ‵ (flft κ′ q′) ∷ [])) (Post (ro .val r))
+    exits : (zs′ : List (Ev .Denot)) (zs′-len : length zs′ ≡ length ys) (r : Ro .Denot) (r-ok : Is Ro r (vals ro r)) (said : (r ≡ rowOf kindOf sheet off lz (leastOf n (length ys))) × (zs′ ≡ rowSlots kindOf sheet off lz (leastOf n (length ys)) ++ dropN (leastOf n (length ys)) ys)) → ent 𝓤 (⋆ 𝓤 H A (‵ (Shr u8 κ b o (length sheet) γ sheet) ∷ ‵ (flft κ q) ∷ ‵ (Mut Ev κ′ b′ o′ (length ys) γ′ zs′) ∷ ‵ (flft κ′ q′) ∷ [])) (Post (ro .val r))
     exits zs′ zs′-len r r-ok said =
         qed W (‵ (Shr u8 κ b o (length sheet) γ sheet) ∷ ‵ (flft κ q) ∷ ‵ (Mut Ev κ′ b′ o′ (length ys) γ′ zs′) ∷ ‵ (flft κ′ q′) ∷ []) ∵
         suffices ! _ (ends-at 𝓤 H A row-front.ended stayed (row-front.clauses 𝓤 H A mem run′) W (((κ, (κ′, tt)), (q, (q′, tt)), tt, x, vs), tt) (ro .val r) r (tt, (tt, (tt, (tt, (zs′, tt))))) (tt, (tt, (tt, (tt, (zs′-len, tt)))))) $ says ! said $
@@ -76,10 +77,10 @@ module _ {M : Type 1} (𝓤 : URA M) (H : Heap 𝓤) (A : Atoms 𝓤) (W : Given
     r1 = leastOf n (length ys)
 
     abbrev r2 : Ro .Denot
-    r2 = rowOf sheet off lz (length (take r1 ys))
+    r2 = rowOf kindOf sheet off lz (length (take r1 ys))
 
     abbrev ys2 : List (Ev .Denot)
-    ys2 = rowSlots sheet off lz (length (take r1 ys))
+    ys2 = rowSlots kindOf sheet off lz (length (take r1 ys))
 
     module _ (𝓣 : Tables 𝓤 H) (known-least : Triple 𝓤 (𝓣 .C #buffers·least) (Least′ 𝓤 H A mem run′)) (known-row : Triple 𝓤 (𝓣 .C #gfm_table·row) (Row′ 𝓤 H A mem run′)) (l₀ l₁ l₂ l₃ l₄ l₅ l₆ l₇ l₈ l₉ : ℕ) where
       abbrev C : Calls 𝓤 H
@@ -110,7 +111,7 @@ module _ {M : Type 1} (𝓤 : URA M) (H : Heap 𝓤) (A : Atoms 𝓤) (W : Given
           fsplit ! $ drop ! $ fsplit ! $ drop ! $ fsplit ! $ drop ! $ fsplit ! $ fsplit ! $ move ! (1 ∷ []) $ feqL ! (λ len2d. move ! (1 ∷ []) $ drop ! $ move ! (1 ∷ []) $ use1 W (‵ (flft κ q) ⊛ (‵ (flft (ν2d ∷ []) fullShare) ⊛ ‵ ftrue)) (id⊢ 𝓤 _) $ split ! $ move ! (1 ∷ []) $ split ! $ move ! (1 ∷ []) $ drop ! $ move ! (0 ∷ 3 ∷ 2 ∷ []) $ front-home ! tt Ev ys (ws2 .1 .1 .1 .0) ys2 b′ o′ (length ys) r1 refl room′ (FI.least-right n (length ys)) len2d e2 (λ ys2-len.
           land ! (from ! (stop !)) (init ! 22 refl (typed ro W r2 ok2 .0)) $
           move ! (3 ∷ 2 ∷ 0 ∷ 1 ∷ []) $ returns ! (look ! 22 refl) $ forget ! 4 refl $ forget ! 6 refl $ forget ! 8 refl $ forget ! 10 refl $ forget ! 12 refl $ forget ! 14 refl $ forget ! 16 refl $ forget ! 18 refl $ forget ! 20 refl $ forget ! 22 refl $
-          move ! (22 ∷ 23 ∷ []) $ free1 ! $ move ! (20 ∷ 21 ∷ []) $ free1 ! $ move ! (18 ∷ 19 ∷ []) $ free1 ! $ move ! (16 ∷ 17 ∷ []) $ free1 ! $ move ! (14 ∷ 15 ∷ []) $ free1 ! $ move ! (12 ∷ 13 ∷ []) $ free1 ! $ move ! (10 ∷ 11 ∷ []) $ free1 ! $ move ! (8 ∷ 9 ∷ []) $ free1 ! $ move ! (6 ∷ 7 ∷ []) $ free1 ! $ move ! (4 ∷ 5 ∷ []) $ free1 ! $ free0 ! $ by ! (exits (ys2 ++ dropN r1 ys) ys2-len r2 ok2 (ap (λ (m : ℕ). rowOf sheet off lz m) (taken n ys), ap (λ (m : ℕ). rowSlots sheet off lz m ++ dropN (leastOf n (length ys)) ys) (taken n ys))))))))
+          move ! (22 ∷ 23 ∷ []) $ free1 ! $ move ! (20 ∷ 21 ∷ []) $ free1 ! $ move ! (18 ∷ 19 ∷ []) $ free1 ! $ move ! (16 ∷ 17 ∷ []) $ free1 ! $ move ! (14 ∷ 15 ∷ []) $ free1 ! $ move ! (12 ∷ 13 ∷ []) $ free1 ! $ move ! (10 ∷ 11 ∷ []) $ free1 ! $ move ! (8 ∷ 9 ∷ []) $ free1 ! $ move ! (6 ∷ 7 ∷ []) $ free1 ! $ move ! (4 ∷ 5 ∷ []) $ free1 ! $ free0 ! $ by ! (exits (ys2 ++ dropN r1 ys) ys2-len r2 ok2 (ap (λ (m : ℕ). rowOf kindOf sheet off lz m) (taken n ys), ap (λ (m : ℕ). rowSlots kindOf sheet off lz m ++ dropN (leastOf n (length ys)) ys) (taken n ys))))))))
 
     walk : (𝓣 : Tables 𝓤 H) (known-least : Triple 𝓤 (𝓣 .C #buffers·least) (Least′ 𝓤 H A mem run′)) (known-row : Triple 𝓤 (𝓣 .C #gfm_table·row) (Row′ 𝓤 H A mem run′)) → ent 𝓤 (onEntry 𝓤 H A row-front.signature (κ, (κ′, tt)) (q, (q′, tt)) x vs) (WpFn 𝓤 H (𝓣 .C) (𝓣 .Λ) code.function (sliceVal (b, o) (length sheet) ∷ vint w64 off ∷ bool-data .val lz ∷ vint w64 n ∷ sliceVal (b′, o′) (length ys) ∷ []) Post)
     walk 𝓣 known-least known-row =

@@ -7,6 +7,7 @@ use Rattle.tokenizer.proofs.Types.{Ev, ev, ev-ty, ev-is}
 use mathlib.Core.Bool.{_||_}
 use lib.ListN.{replicate, length-replicate}
 use Rattle.tokenizer.specs.Events.{blankEvent}
+use Rattle.tokenizer.specs.Bytes.{kindOf}
 use Rattle.gfm_table.specs.Calls.{rowOf, rowSlots}
 use Rattle.buffers.specs.Buffers.{leastOf, blanks, rowSmallWith, rowSmallOf}
 use Rattle.buffers.proofs.row_front as row-front
@@ -53,10 +54,10 @@ module _ {M : Type 1} (𝓤 : URA M) (H : Heap 𝓤) (A : Atoms 𝓤) (W : Given
 
     -- what each call returns, and what it leaves
     abbrev r1 : Ro .Denot
-    r1 = rowOf sheet off lz (leastOf n (length (blanks 256)))
+    r1 = rowOf kindOf sheet off lz (leastOf n (length (blanks 256)))
 
     abbrev a51 : List (Ev .Denot)
-    a51 = rowSlots sheet off lz (leastOf n (length (blanks 256))) ++ dropN (leastOf n (length (blanks 256))) (blanks 256)
+    a51 = rowSlots kindOf sheet off lz (leastOf n (length (blanks 256))) ++ dropN (leastOf n (length (blanks 256))) (blanks 256)
 
     module _ (𝓣 : Tables 𝓤 H) (known-row-front : Triple 𝓤 (𝓣 .C #buffers·row-front) (RowFront′ 𝓤 H A mem run′)) (l₀ l₁ l₂ l₃ l₄ l₅ l₆ l₇ l₈ l₉ l₁₀ : ℕ) where
       abbrev C : Calls 𝓤 H

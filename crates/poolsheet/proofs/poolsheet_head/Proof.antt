@@ -4,6 +4,7 @@ use Rattle.tokenizer.proofs.Prelude.{_≡_, refl, sym, _∙_, ap, subst, ℕ, z
 use Rattle.gfm_table.proofs.Types.{He, he, he-ty}
 use Rattle.tokenizer.proofs.Types.{Ev}
 use mathlib.Core.Bool.{_||_}
+use Rattle.tokenizer.specs.Bytes.{kindOf}
 use Rattle.gfm_table.specs.Calls.{headOf, headSlots}
 use Rattle.poolsheet.specs.Answers.{numberOfHead, countsOfHead}
 use Rattle.gfm_table.proofs.head as head
@@ -70,7 +71,7 @@ module _ {M : Type 1} (𝓤 : URA M) (H : Heap 𝓤) (A : Atoms 𝓤) (W : Given
     abbrev Post : Val → SProp 𝓤
     Post = walkOf 𝓤 H A poolsheet-head.ended stayed (poolsheet-head.clauses 𝓤 H A mem run′) .post (((κ, (κ′, (κ″, tt))), (q, (q′, (q″, tt))), tt, x, vs), tt)
 
-    exits : (zs′ : List (Ev .Denot)) (zs′-len : length zs′ ≡ length ys) (h : (Array usize 3) .Denot) (r : u8 .Denot) (r-ok : Is u8 r (vals (uint-data w8) r)) (said : (r ≡ numberOfHead (headOf sheet off on (lz || pc) (length ys))) × ((zs′ ≡ headSlots sheet off on (lz || pc) (length ys)) × (h ≡ countsOfHead (headOf sheet off on (lz || pc) (length ys))))) → ent 𝓤 (⋆ 𝓤 H A (‵ (Shr u8 κ b o (length sheet) γ sheet) ∷ ‵ (flft κ q) ∷ ‵ (Mut Ev κ′ b′ o′ (length ys) γ′ zs′) ∷ ‵ (flft κ′ q′) ∷ ‵ (MutRef erased κ″ (Array usize 3) .own (rf b″ o″ γ″ h) (vptr b″ o″ ∷ [])) ∷ ‵ (flft κ″ q″) ∷ [])) (Post ((uint-data w8) .val r))
+    exits : (zs′ : List (Ev .Denot)) (zs′-len : length zs′ ≡ length ys) (h : (Array usize 3) .Denot) (r : u8 .Denot) (r-ok : Is u8 r (vals (uint-data w8) r)) (said : (r ≡ numberOfHead (headOf kindOf sheet off on (lz || pc) (length ys))) × ((zs′ ≡ headSlots kindOf sheet off on (lz || pc) (length ys)) × (h ≡ countsOfHead (headOf kindOf sheet off on (lz || pc) (length ys))))) → ent 𝓤 (⋆ 𝓤 H A (‵ (Shr u8 κ b o (length sheet) γ sheet) ∷ ‵ (flft κ q) ∷ ‵ (Mut Ev κ′ b′ o′ (length ys) γ′ zs′) ∷ ‵ (flft κ′ q′) ∷ ‵ (MutRef erased κ″ (Array usize 3) .own (rf b″ o″ γ″ h) (vptr b″ o″ ∷ [])) ∷ ‵ (flft κ″ q″) ∷ [])) (Post ((uint-data w8) .val r))
     exits zs′ zs′-len h r r-ok said =
         qed W (‵ (Shr u8 κ b o (length sheet) γ sheet) ∷ ‵ (flft κ q) ∷ ‵ (Mut Ev κ′ b′ o′ (length ys) γ′ zs′) ∷ ‵ (flft κ′ q′) ∷ ‵ (MutRef erased κ″ (Array usize 3) .own (rf b″ o″ γ″ h) (vptr b″ o″ ∷ [])) ∷ ‵ (flft κ″ q″) ∷ []) ∵
         suffices ! _ (ends-at 𝓤 H A poolsheet-head.ended stayed (poolsheet-head.clauses 𝓤 H A mem run′) W (((κ, (κ′, (κ″, tt))), (q, (q′, (q″, tt))), tt, x, vs), tt) ((uint-data w8) .val r) r (tt, (tt, (tt, (tt, (tt, (zs′, (h, tt))))))) (tt, (tt, (tt, (tt, (tt, (zs′-len, (tt, tt)))))))) $ says ! said $
@@ -78,10 +79,10 @@ module _ {M : Type 1} (𝓤 : URA M) (H : Heap 𝓤) (A : Atoms 𝓤) (W : Given
 
     -- what each call returns, and what it leaves
     abbrev r1 : He .Denot
-    r1 = headOf sheet off on (lz || pc) (length ys)
+    r1 = headOf kindOf sheet off on (lz || pc) (length ys)
 
     abbrev ys1 : List (Ev .Denot)
-    ys1 = headSlots sheet off on (lz || pc) (length ys)
+    ys1 = headSlots kindOf sheet off on (lz || pc) (length ys)
 
     abbrev r2 : (Array usize 3) .Denot
     r2 = countsOfHead r1

@@ -3,6 +3,7 @@
 use Rattle.tokenizer.proofs.Prelude.{_≡_, refl, sym, _∙_, ap, subst, ℕ, zero, suc, _+_, _-_, _*_, _<_, _≤_, _^_, arith, Bool, true, false, not, List, [], _∷_, _++_, Holds, ltb, ltb→lt, nltb→le, lit<, length, getD, set, take, dropN, length-set, URA, fullShare, Ty, named, imm, mut, erased, w8, w16, w32, w64, tyInt, tyBool, tyUnit, tyPtr, tyRef, tyArray, Val, vunit, vbool, vint, vptr, SProp, ent, sep, emp, id⊢, via, fst∗, ∗emp, Lft, GName, Share, Fml, ftrue, fsep, fat, froom, fdies, flft, Memory, Routine, afterTurn, Heap, Out, Env, Calls, Loops, Wp, WpFn, Tables, afterSeq, afterBlock, atReturn, Atoms, sem, Fun, fact, fact-mono, tablesOf, givenOf, tables, Given, Item, Sq, Goal, cut, runs, anyQ, atRet, ‵, raw, _⊛_, ⋆, _$_, _∵_, !, qed, by, move, keep, drop, use0, use1, use2, use3, split, join, pick, learn, rewrite, fsplit, fsplit3, fjoin, fjoin3, feqL, feqI, suffices, frame, await, done, agg, rep, whole, sub, look-in, store-in, look, look-raw, store, store-raw, init, forget, stop, hop, fld, from, load, lit, unit-lit, true-lit, false-lit, addr, of-opd, bin, and-then, no-more, assigns, assigns-last, land, land-last, first, skips, jumps, blocks, branches, returns, returns-within, enter, alloc1, alloc0, params1, pass1, pass0, free1, free0, exec, Below, again, loops, FmC, fmOf, WpFn-mono, RattleType, owns, Is, shows, pointee, uint-vals, uint-tells, uint-makes, nothing-lawful, u8, u16, u32, usize, bool, Array, RefT, MutRef, ShrRef, ptr-vals, mut-tells, shr-tells, sliceTy, sliceVal, ShrSlice, MutSlice, Room, finally, slice-vals, shr-slice-tells, mut-slice-tells, place-is, place-byte, plain, nothing, owned, Contract, Triple, calls-at, calls-at-last, Vals, onEntry, Meets, tripleOf, entered, cited, says, needs, Stays, stay-slice, gave-slice, stay-none-slice, stay-ref, gave-ref, stay-none-ref, stay-none, walkOf, ends-at, walked, goes-slice, goes-gave-slice, goes-none-slice, goes-ref, goes-gave-ref, goes-none-ref, goes-none, walk-meets, yes, Data, uint-data, bool-data, vals, typed, place-fits, holds, fails, tl, big-lit, sl, Mut, Shr, copies, looks-elem, shuts-elem, opens-elem, closes-elem, lends-row, row-back, lends, home, shares, shared-home, array-data, repeat-is, parts-array, whole-array, reads-row, back-row, rf, looks-ref, shuts-ref, opens-ref, closes-ref, answers, calls-plain, calls-plain-last, lends-array, array-home, shares-array, array-shared-home, calls-with, calls-unit, at-unit}
 use Rattle.gfm_table.proofs.Types.{Ro, ro, ro-ty}
 use Rattle.tokenizer.proofs.Types.{Ev}
+use Rattle.tokenizer.specs.Bytes.{kindOf}
 use Rattle.gfm_table.specs.Calls.{rowOf, rowSlots}
 use Rattle.poolsheet.specs.Answers.{numberOfRow, countsOfRow}
 use Rattle.gfm_table.proofs.row as row
@@ -69,7 +70,7 @@ module _ {M : Type 1} (𝓤 : URA M) (H : Heap 𝓤) (A : Atoms 𝓤) (W : Given
     abbrev Post : Val → SProp 𝓤
     Post = walkOf 𝓤 H A poolsheet-row.ended stayed (poolsheet-row.clauses 𝓤 H A mem run′) .post (((κ, (κ′, (κ″, tt))), (q, (q′, (q″, tt))), tt, x, vs), tt)
 
-    exits : (zs′ : List (Ev .Denot)) (zs′-len : length zs′ ≡ length ys) (h : (Array usize 2) .Denot) (r : u8 .Denot) (r-ok : Is u8 r (vals (uint-data w8) r)) (said : (r ≡ numberOfRow (rowOf text off lz (length ys))) × ((zs′ ≡ rowSlots text off lz (length ys)) × (h ≡ countsOfRow (rowOf text off lz (length ys))))) → ent 𝓤 (⋆ 𝓤 H A (‵ (Shr u8 κ b o (length text) γ text) ∷ ‵ (flft κ q) ∷ ‵ (Mut Ev κ′ b′ o′ (length ys) γ′ zs′) ∷ ‵ (flft κ′ q′) ∷ ‵ (MutRef erased κ″ (Array usize 2) .own (rf b″ o″ γ″ h) (vptr b″ o″ ∷ [])) ∷ ‵ (flft κ″ q″) ∷ [])) (Post ((uint-data w8) .val r))
+    exits : (zs′ : List (Ev .Denot)) (zs′-len : length zs′ ≡ length ys) (h : (Array usize 2) .Denot) (r : u8 .Denot) (r-ok : Is u8 r (vals (uint-data w8) r)) (said : (r ≡ numberOfRow (rowOf kindOf text off lz (length ys))) × ((zs′ ≡ rowSlots kindOf text off lz (length ys)) × (h ≡ countsOfRow (rowOf kindOf text off lz (length ys))))) → ent 𝓤 (⋆ 𝓤 H A (‵ (Shr u8 κ b o (length text) γ text) ∷ ‵ (flft κ q) ∷ ‵ (Mut Ev κ′ b′ o′ (length ys) γ′ zs′) ∷ ‵ (flft κ′ q′) ∷ ‵ (MutRef erased κ″ (Array usize 2) .own (rf b″ o″ γ″ h) (vptr b″ o″ ∷ [])) ∷ ‵ (flft κ″ q″) ∷ [])) (Post ((uint-data w8) .val r))
     exits zs′ zs′-len h r r-ok said =
         qed W (‵ (Shr u8 κ b o (length text) γ text) ∷ ‵ (flft κ q) ∷ ‵ (Mut Ev κ′ b′ o′ (length ys) γ′ zs′) ∷ ‵ (flft κ′ q′) ∷ ‵ (MutRef erased κ″ (Array usize 2) .own (rf b″ o″ γ″ h) (vptr b″ o″ ∷ [])) ∷ ‵ (flft κ″ q″) ∷ []) ∵
         suffices ! _ (ends-at 𝓤 H A poolsheet-row.ended stayed (poolsheet-row.clauses 𝓤 H A mem run′) W (((κ, (κ′, (κ″, tt))), (q, (q′, (q″, tt))), tt, x, vs), tt) ((uint-data w8) .val r) r (tt, (tt, (tt, (zs′, (h, tt))))) (tt, (tt, (tt, (zs′-len, (tt, tt)))))) $ says ! said $
@@ -77,10 +78,10 @@ module _ {M : Type 1} (𝓤 : URA M) (H : Heap 𝓤) (A : Atoms 𝓤) (W : Given
 
     -- what each call returns, and what it leaves
     abbrev r1 : Ro .Denot
-    r1 = rowOf text off lz (length ys)
+    r1 = rowOf kindOf text off lz (length ys)
 
     abbrev ys1 : List (Ev .Denot)
-    ys1 = rowSlots text off lz (length ys)
+    ys1 = rowSlots kindOf text off lz (length ys)
 
     abbrev r2 : (Array usize 2) .Denot
     r2 = countsOfRow r1

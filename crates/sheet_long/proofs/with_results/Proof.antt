@@ -9,6 +9,7 @@ use mathlib.Core.List.{map}
 use lib.ListN.{replicate}
 use denote.Array.{arrayVal}
 use Rattle.buffers.proofs.Long.{repeats}
+use Rattle.tokenizer.specs.Bytes.{builtIn}
 use Rattle.sheet.specs.Calls.{sheetOf, leastOf}
 use Rattle.tokenizer.specs.Slots.{eventAt}
 use Rattle.sheet_buffers.specs.Reads.{blanks}
@@ -89,7 +90,7 @@ module _ {M : Type 1} (𝓤 : URA M) (H : Heap 𝓤) (A : Atoms 𝓤) (W : Given
       -- the array is made: its list is xs
       module _ (xs : List (Ev .Denot)) (xs-ok : Is (Array Ev 196608) xs (vals (array-data ev 196608) xs)) (xs-is : xs ≡ blanks 196608) where
         abbrev r1 : Sh .Denot
-        r1 = sheetOf st on (leastOf n (length ys)) (leastOf m (length xs)) (leastOf k 10240)
+        r1 = sheetOf st builtIn on (leastOf n (length ys)) (leastOf m (length xs)) (leastOf k 10240)
 
         abbrev ys1 : List (Ev .Denot)
         ys1 = rawLeft st on n m k ys xs 10240

@@ -16,9 +16,9 @@ kind-at-requires c κs = search needs
 
 returns : tie.Need-returns
 returns c =
-    let a = c .before .before .before .before .before .args in
+    let a = c .before .before .before .before .before .before .args in
     rw (c .before .before .before .if1 .taken, eq-eqb _ _ (c .before .before .if2 .taken), c .kind-at .ensures)
-    (sym (solid-ahead (now (a .s)) (a .end) (c .before .spaces-end .result) (c .before .spaces-end .ensures)))
+    (sym (solid-ahead (c .before .before .before .before .before .before .pre .reads) (now (a .s)) (a .end) (c .before .spaces-end .result) (c .before .spaces-end .ensures)))
 
 returns-2 : tie.Need-returns-2
 returns-2 c = rw (c .before .if1 .taken, ne-eqb _ _ (c .if2 .left))

@@ -6,7 +6,7 @@ use native.Mathlib.Omega.{arith}
 use borrow.Author.Needs.{needs}
 use lib.ListN.{length, drop}
 use denote.Ref.{now}
-use Rattle.tokenizer.specs.Bytes.{kindOf}
+use Rattle.tokenizer.specs.Bytes.{kindIn}
 use Rattle.tokenizer.specs.Lines.{indent}
 use Rattle.tokenizer.specs.Points.{columnPast}
 use Rattle.tokenizer.proofs.Ahead.{Front, goes, run-stops}
@@ -17,20 +17,20 @@ use Rattle.edit_map.proofs.cell_spans.spaces_past.Statement.{statement}
 use Rattle.edit_map.proofs.cell_spans.spaces_past.Tie as tie
 
 abbrev Inv-loop : tie.InvT-loop
-Inv-loop s at column i₀ c₀ i c =
-    (i + length (indent kindOf (lineFrom s i)) ≡ i₀ + length (indent kindOf (lineFrom s i₀))) × ((columnPast c (indent kindOf (lineFrom s i)) ≡ columnPast c₀ (indent kindOf (lineFrom s i₀))) × (c ≤ 4 * i + 1))
+Inv-loop s kinds at column i₀ c₀ i c =
+    (i + length (indent (kindIn kinds) (lineFrom s i)) ≡ i₀ + length (indent (kindIn kinds) (lineFrom s i₀))) × ((columnPast c (indent (kindIn kinds) (lineFrom s i)) ≡ columnPast c₀ (indent (kindIn kinds) (lineFrom s i₀))) × (c ≤ 4 * i + 1))
 
 abbrev μ-loop : tie.MeasureT-loop
-μ-loop s at column i₀ c₀ i c = length s - i
+μ-loop s kinds at column i₀ c₀ i c = length s - i
 
 loop-holds : tie.Need-loop-holds Inv-loop μ-loop
-loop-holds c = (refl, (refl, c .before .pre .1))
+loop-holds c = (refl, (refl, c .before .before .pre .1))
 
 kind-at-requires : tie.Need-kind-at-requires Inv-loop μ-loop
 kind-at-requires c κs = search needs
 
-front : (c : tie.Then1 Inv-loop μ-loop) → Front (now (c .before .before .before .before .args .s)) (c .before .before .loop .i) 1
-front c = goes _ _ 1 (sym (c .if1 .taken) ∙ c .before .kind-at .ensures) (λ z. omega arith)
+front : (c : tie.Then1 Inv-loop μ-loop) → Front (kindIn (now (c .before .before .before .before .before .args .kinds))) (now (c .before .before .before .before .before .args .s)) (c .before .before .loop .i) 1
+front c = goes (c .before .before .before .before .before .pre .2 .reads) _ _ 1 (sym (c .if1 .taken) ∙ c .before .kind-at .ensures) (λ z. omega arith)
 
 shared-slice-read-column-after : tie.Need-shared-slice-read-column-after Inv-loop μ-loop
 shared-slice-read-column-after c = front (c .before) .below
@@ -38,7 +38,7 @@ shared-slice-read-column-after c = front (c .before) .below
 column-after-requires : tie.Need-column-after-requires Inv-loop μ-loop
 column-after-requires c κs =
     let f = front (c .before) in
-    omega (arith, f .below, c .before .before .before .loop .inv .1 .1, c .before .before .before .before .before .pre .0)
+    omega (arith, f .below, c .before .before .before .loop .inv .1 .1, c .before .before .before .before .before .before .pre .0)
 
 add-i : tie.Need-add-i Inv-loop μ-loop
 add-i c = let f = front (c .before .before) in omega (arith, f .below)
@@ -52,14 +52,14 @@ loop-again c =
     let l = c .before .before .before .before .loop in
     let e = c .before .before .before .before .before .before in
     rw (c .column-after .ensures)
-    (omega (arith, spaces-more _ (l .i) f, l .inv .0), (sym (space-column _ (l .i) (l .c) f) ∙ l .inv .1 .0, space-narrow _ (l .i) (l .c) f (e .pre .0) (l .inv .1 .1)))
+    (omega (arith, spaces-more (c .before .before .before .before .before .before .before .pre .2 .reads) _ (l .i) f, l .inv .0), (sym (space-column (c .before .before .before .before .before .before .before .pre .2 .reads) _ (l .i) (l .c) f) ∙ l .inv .1 .0, space-narrow (c .before .before .before .before .before .before .before .pre .2 .reads) _ (l .i) (l .c) f (e .before .pre .0) (l .inv .1 .1)))
 
 returns : tie.Need-returns Inv-loop μ-loop
 unfolding columnPast
 returns c =
     let l = c .before .before .loop in
-    let s = now (c .before .before .before .before .args .s) in
-    let e = indent-run kindOf (lineFrom s (l .i)) ∙ run-stops 1 (drop (l .i) s) (λ z. c .if1 .left (c .before .kind-at .ensures ∙ z)) in
+    let s = now (c .before .before .before .before .before .args .s) in
+    let e = indent-run (kindIn (now (c .before .before .before .before .before .args .kinds))) (lineFrom s (l .i)) ∙ run-stops (c .before .before .before .before .before .pre .2 .reads) 1 (drop (l .i) s) (λ z. c .if1 .left (c .before .kind-at .ensures ∙ z)) in
     (omega (arith, ap length e, l .inv .0), sym (ap (columnPast (l .c)) e) ∙ l .inv .1 .0)
 
 pub spaces-past-spec : {M : Type 1} → statement M

@@ -6,6 +6,7 @@ use borrow.Author.Needs.{needs}
 use borrow.Author.Tests.{eq-eqb, ne-eqb}
 use lib.Dec.{eqb}
 use denote.Ref.{now}
+use Rattle.tokenizer.specs.Bytes.{kindIn}
 use Rattle.gfm_table.proofs.Passing.{lineFrom}
 use Rattle.edit_map.specs.Spans.{textNext}
 use Rattle.edit_map.proofs.Spans.{text-ahead}
@@ -19,8 +20,8 @@ kind-at-requires : tie.Need-kind-at-requires
 kind-at-requires c κs = search needs
 
 -- what the byte behind whitespace says
-says : (c : tie.After-kind-at) → let a = c .before .before .before .args in textNext (lineFrom (now (a .s)) (a .end)) ≡ not (eqb (c .kind-at .result) 2 || eqb (c .kind-at .result) 3)
-says c = let a = c .before .before .before .args in rw (c .kind-at .ensures) (text-ahead (now (a .s)) (a .end) (c .before .spaces-end .result) (c .before .spaces-end .ensures))
+says : (c : tie.After-kind-at) → let a = c .before .before .before .before .args in textNext (kindIn (now (c .before .before .before .before .args .kinds))) (lineFrom (now (a .s)) (a .end)) ≡ not (eqb (c .kind-at .result) 2 || eqb (c .kind-at .result) 3)
+says c = let a = c .before .before .before .before .args in rw (c .kind-at .ensures) (text-ahead (c .before .before .before .before .pre .reads) (now (a .s)) (a .end) (c .before .spaces-end .result) (c .before .spaces-end .ensures))
 
 returns : tie.Need-returns
 returns c = sym (says (c .before) ∙ rw (eq-eqb _ _ (c .if1 .taken)))

@@ -12,7 +12,7 @@ returns c =
     let l = c .before .before .before .before in
     let f = l .before .before in
     let n = f .before .before .before .before in
-    let a = n .before .before .args in
+    let a = n .before .before .before .args in
     rw (
       c .either2 .ensures,
       c .before .unless2 .ensures,
@@ -23,7 +23,7 @@ returns c =
       f .before .is-text-name .ensures,
       f .before .before .opens .ensures,
       n .marks-at .ensures,
-    ) (sym (mark-step (now (a .s)) (a .w)))
+    ) (sym (mark-step (n .before .before .before .pre .3 .reads) (now (a .s)) (a .w)))
 
 pub mark-step-spec : {M : Type 1} → statement M
 mark-step-spec =

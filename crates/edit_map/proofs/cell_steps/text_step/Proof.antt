@@ -12,16 +12,17 @@ reach-from-requires : tie.Need-reach-from-requires
 reach-from-requires c κs =
     let n = c .before .before in
     let e = n .before .before in
-    let w = e .args .w in
-    let f = next-fits (now (e .args .s)) Body (w .at) (w .column) (e .pre) in
-    (e .pre .0, rw (n .text-at .ensures) (f .0), rw (n .text-at .ensures) (f .1))
+    let w = e .before .args .w in
+    let h = e .before .pre in
+    let f = next-fits (h .3 .reads) (now (e .before .args .s)) Body (w .at) (w .column) (h .0, h .1, h .2) in
+    (e .before .pre .0, rw (n .text-at .ensures) (f .0), rw (n .text-at .ensures) (f .1), h .3)
 
 returns : tie.Need-returns
 returns c =
     let l = c .before .before .before .before in
     let o = l .before .before .before in
     let n = o .before .before in
-    let a = n .before .before .args in
+    let a = n .before .before .before .args in
     rw (
       c .either2 .ensures,
       c .before .unless .ensures,
@@ -30,7 +31,7 @@ returns c =
       l .before .before .reach-from .ensures,
       o .opens .ensures,
       n .text-at .ensures,
-    ) (sym (text-step (now (a .s)) (a .w)))
+    ) (sym (text-step (n .before .before .before .pre .3 .reads) (now (a .s)) (a .w)))
 
 pub text-step-spec : {M : Type 1} → statement M
 text-step-spec =

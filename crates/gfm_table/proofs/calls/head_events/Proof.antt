@@ -2,7 +2,7 @@
 -- Assumes nothing.
 use native.Mathlib.Omega.{arith}
 use denote.Ref.{now}
-use Rattle.tokenizer.specs.Bytes.{kindOf}
+use Rattle.tokenizer.specs.Bytes.{kindIn}
 use Rattle.tokenizer.specs.Moves.{restOf}
 use Rattle.gfm_table.proofs.Plans.{delimiter-few, rest-few}
 use borrow.Author.Needs.{needs}
@@ -18,8 +18,8 @@ marks-from-requires c κs = search needs
 add-result : tie.Need-add-result
 add-result c =
     let b = c .before .before .before .before .before in
-    let d = b .args .o .delimiter in
-    omega (arith, c .before .marks-from .ensures, b .pre .1, delimiter-few kindOf (restOf (now (b .args .s)) d), rest-few (now (b .args .s)) d (b .pre .0))
+    let d = b .before .args .o .delimiter in
+    omega (arith, c .before .marks-from .ensures, b .before .pre .1, delimiter-few (kindIn (now (c .before .before .before .before .before .before .args .kinds))) (restOf (now (b .before .args .s)) d), rest-few (now (b .before .args .s)) d (b .before .pre .0))
 
 cast-result : tie.Need-cast-result
 cast-result c = search needs

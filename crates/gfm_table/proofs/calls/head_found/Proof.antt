@@ -15,11 +15,11 @@ head-refused-requires c κs = search needs
 returns : tie.Need-returns
 returns c = rw (← c .before .before .head-events .ensures, lt-ltb _ _ (c .before .if1 .taken)) (c .head-refused .ensures)
 
-cast-t8 : tie.Need-cast-t8
-cast-t8 c = search needs
-
 cast-t9 : tie.Need-cast-t9
 cast-t9 c = search needs
+
+cast-t10 : tie.Need-cast-t10
+cast-t10 c = search needs
 
 returns-2 : tie.Need-returns-2
 returns-2 c = rw (← c .before .before .before .before .head-events .ensures, le-ltb _ _ (c .before .before .before .if1 .left))
@@ -27,4 +27,4 @@ returns-2 c = rw (← c .before .before .before .before .head-events .ensures, l
 pub head-found-spec : {M : Type 1} → statement M
 head-found-spec =
     tie.close
-    (tie.spec head-events-requires head-refused-requires returns cast-t8 cast-t9 returns-2)
+    (tie.spec head-events-requires head-refused-requires returns cast-t9 cast-t10 returns-2)

@@ -8,7 +8,7 @@ use mathlib.Core.List.{List}
 use lib.ListN.{length}
 use denote.Ref.{now}
 use Rattle.tokenizer.specs.declared.event.Point.{Point}
-use Rattle.tokenizer.specs.Bytes.{kindOf}
+use Rattle.tokenizer.specs.Bytes.{kindIn}
 use Rattle.tokenizer.specs.Moves.{restOf, lineAt, after, Inside}
 use Rattle.tokenizer.proofs.Ends.{after-inside}
 use Rattle.gfm_table.specs.declared.heads.Opened.{Opened}
@@ -30,25 +30,27 @@ head-refused-requires : tie.Need-head-refused-requires
 head-refused-requires c κs = search needs
 
 -- questions 1 and 2 are answered yes
-placed : (c : tie.Else1) → let a = c .before .before .before .args in placeRefusal (now (a .s)) (a .at) ≡ 0
+placed : (c : tie.Else1) → let a = c .before .before .before .before .args in placeRefusal (now (a .s)) (a .at) ≡ 0
 placed c = sym (c .before .place-refusal .ensures) ∙ c .if1 .left
 
 returns : tie.Need-returns
 returns c =
-    let a = c .before .before .before .before .args in
+    let m = c .before .before .before .before .before in
+    let a = m .args in
     let e = c .before .before .place-refusal .ensures in
-    c .head-refused .ensures ∙ rw e (head-place (now (a .s)) (a .at) (a .on) (a .stray) (a .slots) (λ z. c .before .if1 .taken (e ∙ z)))
+    c .head-refused .ensures ∙ rw e (head-place (m .pre .reads) (now (a .s)) (a .at) (a .on) (a .stray) (a .slots) (λ z. c .before .if1 .taken (e ∙ z)))
 
 point-at-requires : tie.Need-point-at-requires
 point-at-requires c κs =
-    let a = c .before .before .before .args in
+    let a = c .before .before .before .before .args in
     let h = place-inside (now (a .s)) (a .at) (placed c) in
     (h .within, omega (arith, h .within, h .short))
 
 head-at-requires : tie.Need-head-at-requires
 head-at-requires c κs =
-    let a = c .before .before .before .before .args in
-    rw (c .point-at .ensures) (place-inside (now (a .s)) (a .at) (placed (c .before)), refl)
+    let m = c .before .before .before .before .before in
+    let a = m .args in
+    rw (c .point-at .ensures) (place-inside (now (a .s)) (a .at) (placed (c .before)), refl, m .pre)
 
 enum-known-n : tie.Need-enum-known-n
 enum-known-n c = search needs
@@ -60,55 +62,60 @@ enum-known-o : tie.Need-enum-known-o
 enum-known-o c = search needs
 
 -- the head that was found is the one at the offset
-answered : (c : tie.After-head-at) → let a = c .before .before .before .before .before .args in c .head-at .result ≡ headAt (now (a .s)) (pointAt (now (a .s)) (a .at)) (a .on) (a .stray)
+answered : (c : tie.After-head-at) → let a = c .before .before .before .before .before .before .args in c .head-at .result ≡ headAt (kindIn (now (a .kinds))) (now (a .s)) (pointAt (now (a .s)) (a .at)) (a .on) (a .stray)
 answered c = rw (c .before .point-at .ensures) at (c .head-at .ensures)
 
 -- of which questions 3 to 7 are answered yes
-opened : (c : tie.After-o) → let a = c .before .before .before .before .before .before .before .args in
+opened : (c : tie.After-o) → let a = c .before .before .before .before .before .before .before .before .args in
     let q = pointAt (now (a .s)) (a .at) in
-    (c .o .given .0 .0 ≡ openedAt (now (a .s)) q) × (headRefusal kindOf (a .on) (a .stray) (lineAt (now (a .s)) q) (lineAt (now (a .s)) (after (now (a .s)) q)) ≡ 0)
+    (c .o .given .0 .0 ≡ openedAt (kindIn (now (a .kinds))) (now (a .s)) q) × (headRefusal (kindIn (now (a .kinds))) (a .on) (a .stray) (lineAt (now (a .s)) q) (lineAt (now (a .s)) (after (now (a .s)) q)) ≡ 0)
 opened c =
-    let a = c .before .before .before .before .before .before .before .args in
-    is-accepted (now (a .s)) (pointAt (now (a .s)) (a .at)) (a .on) (a .stray) _ (sym (c .o .given .1) ∙ answered (c .before .before))
+    let m = c .before .before .before .before .before .before .before .before in
+    let a = m .args in
+    is-accepted (m .pre .reads) (now (a .s)) (pointAt (now (a .s)) (a .at)) (a .on) (a .stray) _ (sym (c .o .given .1) ∙ answered (c .before .before))
 
 head-found-requires : tie.Need-head-found-requires
 head-found-requires c κs =
-    let a = c .before .before .before .before .before .before .before .before .args in
+    let m = c .before .before .before .before .before .before .before .before .before in
+    let a = m .args in
     let s = now (a .s) in
     let q = pointAt s (a .at) in
     let h = place-inside s (a .at) (placed (c .before .before .before .before .before)) in
     let o = opened (c .before) in
     rw (o .0) (
-      after-inside s q (refused-end (a .on) (a .stray) (lineAt s q) (lineAt s (after s q)) (o .1)) h,
-      omega (arith, row-few kindOf false (restOf s q), rest-few s q h),
+      after-inside s q (refused-end (m .pre .reads) (a .on) (a .stray) (lineAt s q) (lineAt s (after s q)) (o .1)) h,
+      omega (arith, row-few (kindIn (now (a .kinds))) false (restOf s q), rest-few s q h),
+      m .pre,
     )
 
 returns-2 : tie.Need-returns-2
 returns-2 c =
     let r = c .before .before .before .before in
-    let a = r .before .before .before .before .before .args in
+    let m = r .before .before .before .before .before .before in
+    let a = m .args in
     let s = now (a .s) in
     let q = pointAt s (a .at) in
-    let f = is-refused s q (a .on) (a .stray) _ (sym (c .before .before .n .given .1) ∙ answered r) in
-    c .head-refused2 .ensures ∙ ap headRefused (f .0) ∙ head-no s (a .at) (a .on) (a .stray) (a .slots) (placed (r .before .before)) (f .1)
+    let f = is-refused (m .pre .reads) s q (a .on) (a .stray) _ (sym (c .before .before .n .given .1) ∙ answered r) in
+    c .head-refused2 .ensures ∙ ap headRefused (f .0) ∙ head-no (m .pre .reads) s (a .at) (a .on) (a .stray) (a .slots) (placed (r .before .before)) (f .1)
 
 -- a head that was found has as many events as its pieces say
-found : {o : Opened} {p : Point} (s : List ℕ) (q : Point) (n : ℕ) → o ≡ openedAt s q → p ≡ q
-    → headFound (2 * (o .pieces + length (delimiterPieces kindOf (restOf s (o .delimiter)))) + 8) p o n ≡ headFound (length (headEventsAt s q)) q (openedAt s q) n
-found s q n e f =
-    (λ j. headFound (2 * (e j .pieces + length (delimiterPieces kindOf (restOf s (e j .delimiter)))) + 8) (f j) (e j) n)
-    ∙ ap (λ (m : ℕ). headFound m q (openedAt s q) n) (sym (head-length kindOf q (lineAt s q) (lineAt s (after s q))))
+found : (kind : ℕ → ℕ) {o : Opened} {p : Point} (s : List ℕ) (q : Point) (n : ℕ) → o ≡ openedAt kind s q → p ≡ q
+    → headFound (2 * (o .pieces + length (delimiterPieces kind (restOf s (o .delimiter)))) + 8) p o n ≡ headFound (length (headEventsAt kind s q)) q (openedAt kind s q) n
+found kind s q n e f =
+    (λ j. headFound (2 * (e j .pieces + length (delimiterPieces kind (restOf s (e j .delimiter)))) + 8) (f j) (e j) n)
+    ∙ ap (λ (m : ℕ). headFound m q (openedAt kind s q) n) (sym (head-length kind q (lineAt s q) (lineAt s (after s q))))
 
 returns-3 : tie.Need-returns-3
 returns-3 c =
     let r = c .before .before .before .before in
-    let a = r .before .before .before .before .before .args in
+    let m = r .before .before .before .before .before .before in
+    let a = m .args in
     let s = now (a .s) in
     let q = pointAt s (a .at) in
     let o = opened (c .before .before) in
     c .head-found .ensures
-    ∙ found s q (a .slots) (o .0) (r .before .point-at .ensures)
-    ∙ head-yes s (a .at) (a .on) (a .stray) (a .slots) (placed (r .before .before)) (o .1)
+    ∙ found (kindIn (now (a .kinds))) s q (a .slots) (o .0) (r .before .point-at .ensures)
+    ∙ head-yes (m .pre .reads) s (a .at) (a .on) (a .stray) (a .slots) (placed (r .before .before)) (o .1)
 
 pub head-plan-spec : {M : Type 1} → statement M
 head-plan-spec =

@@ -4,7 +4,7 @@ use mathlib.Core.Path.{sym, _∙_}
 use native.Mathlib.Omega.{arith}
 use borrow.Author.Needs.{needs}
 use denote.Ref.{now}
-use Rattle.tokenizer.specs.Bytes.{kindOf}
+use Rattle.tokenizer.specs.Bytes.{kindIn}
 use Rattle.tokenizer.specs.Lines.{indent}
 use Rattle.tokenizer.proofs.Ahead.{Front, goes, runEnd, over-inside}
 use Rattle.gfm_table.proofs.Delimiters.{solid-inside}
@@ -18,33 +18,33 @@ space-end-requires c κs = search needs
 ahead-requires : tie.Need-ahead-requires
 ahead-requires c κs = search needs
 
-front : (c : tie.Then1) → let a = c .before .before .before .before .args in Front (now (a .s)) (runEnd (indent kindOf) (now (a .s)) (a .p) .index) 3
-front c = goes _ _ 3 (sym (c .if1 .taken) ∙ (rw (c .before .before .space-end .ensures) at (c .before .ahead .ensures))) (λ z. omega arith)
+front : (c : tie.Then1) → let a = c .before .before .before .before .before .args in Front (kindIn (now (c .before .before .before .before .before .args .kinds))) (now (a .s)) (runEnd (indent (kindIn (now (c .before .before .before .before .before .args .kinds)))) (now (a .s)) (a .p) .index) 3
+front c = goes (c .before .before .before .before .before .pre .1 .reads) _ _ 3 (sym (c .if1 .taken) ∙ (rw (c .before .before .space-end .ensures) at (c .before .ahead .ensures))) (λ z. omega arith)
 
 over-requires : tie.Need-over-requires
 over-requires c κs =
     let a = c .before .before .before .before in
-    rw (c .before .before .space-end .ensures) (solid-inside (now (a .args .s)) (a .args .p) (a .pre), front c .below)
+    rw (c .before .before .space-end .ensures) (solid-inside (c .before .before .before .before .before .pre .1 .reads) (now (a .before .args .s)) (a .before .args .p) (a .before .pre .0), front c .below)
 
 head-delimiter-cells-requires : tie.Need-head-delimiter-cells-requires
 head-delimiter-cells-requires c κs =
     let a = c .before .before .before .before .before in
     rw (c .over .ensures, c .before .before .before .space-end .ensures)
-    (over-inside _ _ 3 (front (c .before)) (solid-inside (now (a .args .s)) (a .args .p) (a .pre)), omega arith)
+    (over-inside _ _ 3 (front (c .before)) (solid-inside (c .before .before .before .before .before .before .pre .1 .reads) (now (a .before .args .s)) (a .before .args .p) (a .before .pre .0)), omega arith, c .before .before .before .before .before .before .pre .1)
 
 returns : tie.Need-returns
 returns c =
-    let a = c .before .before .before .before .before .before .args in
-    (rw (c .before .over .ensures, c .before .before .before .before .space-end .ensures) at (c .head-delimiter-cells .ensures)) ∙ values-led-at (now (a .s)) (a .p) (front (c .before .before))
+    let a = c .before .before .before .before .before .before .before .args in
+    (rw (c .before .over .ensures, c .before .before .before .before .space-end .ensures) at (c .head-delimiter-cells .ensures)) ∙ values-led-at (c .before .before .before .before .before .before .before .pre .1 .reads) (now (a .s)) (a .p) (front (c .before .before))
 
 head-delimiter-cells-requires-2 : tie.Need-head-delimiter-cells-requires-2
 head-delimiter-cells-requires-2 c κs = search needs
 
 returns-2 : tie.Need-returns-2
 returns-2 c =
-    let a = c .before .before .before .before .before .args in
+    let a = c .before .before .before .before .before .before .args in
     c .head-delimiter-cells2 .ensures
-    ∙ values-plain-at (now (a .s)) (a .p) (λ z. c .before .if1 .left ((rw (c .before .before .before .space-end .ensures) at (c .before .before .ahead .ensures)) ∙ z))
+    ∙ values-plain-at (c .before .before .before .before .before .before .pre .1 .reads) (now (a .s)) (a .p) (λ z. c .before .if1 .left ((rw (c .before .before .before .space-end .ensures) at (c .before .before .ahead .ensures)) ∙ z))
 
 pub head-delimiter-before-spec : {M : Type 1} → statement M
 head-delimiter-before-spec =

@@ -17,13 +17,13 @@ returns : tie.Need-returns
 returns c =
     let a = c .before .before .before .before in
     let e = c .before .before .space-end .ensures in
-    rw e (blank-value (now (a .args .s)) (a .args .p) (a .pre) (sym (rw e at (c .before .stretch-ends .ensures)) ∙ c .if1 .taken))
+    rw e (blank-value (c .before .before .before .before .before .pre .1 .reads) (now (a .before .args .s)) (a .before .args .p) (a .before .pre .0) (sym (rw e at (c .before .stretch-ends .ensures)) ∙ c .if1 .taken))
 
 returns-2 : tie.Need-returns-2
 returns-2 c =
-    let a = c .before .before .before .before .args in
+    let a = c .before .before .before .before .before .args in
     let e = c .before .before .space-end .ensures in
-    blank-bad (now (a .s)) (a .p) (sym (rw e at (c .before .stretch-ends .ensures)) ∙ c .if1 .left)
+    blank-bad (c .before .before .before .before .before .pre .1 .reads) (now (a .s)) (a .p) (sym (rw e at (c .before .stretch-ends .ensures)) ∙ c .if1 .left)
 
 pub head-delimiter-cell-after-spec : {M : Type 1} → statement M
 head-delimiter-cell-after-spec = tie.close (tie.spec space-end-requires stretch-ends-requires returns returns-2)

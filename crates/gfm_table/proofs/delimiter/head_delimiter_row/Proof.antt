@@ -4,7 +4,7 @@ use mathlib.Core.Bool.{true}
 use mathlib.Core.Path.{_≡_, sym, _∙_}
 use borrow.Author.Needs.{needs}
 use denote.Ref.{now}
-use Rattle.tokenizer.specs.Bytes.{kindOf}
+use Rattle.tokenizer.specs.Bytes.{kindIn}
 use Rattle.gfm_table.specs.Heads.{permitted, marked}
 use Rattle.tokenizer.specs.Moves.{restOf}
 use Rattle.gfm_table.proofs.Stretches.{row-unpermitted, row-unmarked, row-bad, row-count, row-none}
@@ -27,23 +27,23 @@ enum-known-n : tie.Need-enum-known-n
 enum-known-n c = search needs
 
 -- both tests passed
-may : (c : tie.After-head-delimiter-before) → let a = c .before .before .before .before .before .before .before .args in permitted kindOf (a .on) (restOf (now (a .s)) (a .p)) ≡ true
+may : (c : tie.After-head-delimiter-before) → let a = c .before .before .before .before .before .before .before .before .args in permitted (kindIn (now (c .before .before .before .before .before .before .before .before .args .kinds))) (a .on) (restOf (now (a .s)) (a .p)) ≡ true
 may c = sym (c .before .before .before .before .before .permits .ensures) ∙ c .before .before .before .before .if1 .taken
 
-has : (c : tie.After-head-delimiter-before) → let a = c .before .before .before .before .before .before .before .args in marked kindOf (restOf (now (a .s)) (a .p)) ≡ true
+has : (c : tie.After-head-delimiter-before) → let a = c .before .before .before .before .before .before .before .before .args in marked (kindIn (now (c .before .before .before .before .before .before .before .before .args .kinds))) (restOf (now (a .s)) (a .p)) ≡ true
 has c = sym (c .before .before .marked-from .ensures) ∙ c .before .if2 .taken
 
 returns : tie.Need-returns
 returns c =
     let d = c .before .before .before .before in
-    let a = d .before .before .before .before .before .before .before .args in
-    row-count (a .on) (a .p) (restOf (now (a .s)) (a .p)) (may d) (has d) _ _ (sym (c .before .before .n .given .1) ∙ d .head-delimiter-before .ensures) (c .if3 .taken)
+    let a = d .before .before .before .before .before .before .before .before .args in
+    row-count (c .before .before .before .before .before .before .before .before .before .before .before .before .pre .2 .reads) (a .on) (a .p) (restOf (now (a .s)) (a .p)) (may d) (has d) _ _ (sym (c .before .before .n .given .1) ∙ d .head-delimiter-before .ensures) (c .if3 .taken)
 
 returns-2 : tie.Need-returns-2
 returns-2 c =
     let d = c .before .before .before .before in
-    let a = d .before .before .before .before .before .before .before .args in
-    row-none (a .on) (a .p) (restOf (now (a .s)) (a .p)) (may d) (has d) _ _ (sym (c .before .before .n .given .1) ∙ d .head-delimiter-before .ensures) (c .if3 .left)
+    let a = d .before .before .before .before .before .before .before .before .args in
+    row-none (c .before .before .before .before .before .before .before .before .before .before .before .before .pre .2 .reads) (a .on) (a .p) (restOf (now (a .s)) (a .p)) (may d) (has d) _ _ (sym (c .before .before .n .given .1) ∙ d .head-delimiter-before .ensures) (c .if3 .left)
 
 enum-told : tie.Need-enum-told
 enum-told c = search needs
@@ -51,18 +51,18 @@ enum-told c = search needs
 returns-3 : tie.Need-returns-3
 returns-3 c =
     let d = c .before .before in
-    let a = d .before .before .before .before .before .before .before .args in
-    row-bad (a .on) (a .p) (restOf (now (a .s)) (a .p)) (may d) (has d) (sym (c .enum-told .given .1) ∙ d .head-delimiter-before .ensures)
+    let a = d .before .before .before .before .before .before .before .before .args in
+    row-bad (c .before .before .before .before .before .before .before .before .before .before .pre .2 .reads) (a .on) (a .p) (restOf (now (a .s)) (a .p)) (may d) (has d) (sym (c .enum-told .given .1) ∙ d .head-delimiter-before .ensures)
 
 returns-4 : tie.Need-returns-4
 returns-4 c =
-    let a = c .before .before .before .before .before .before .args in
-    row-unmarked (a .on) (a .p) (restOf (now (a .s)) (a .p)) (sym (c .before .marked-from .ensures) ∙ c .if2 .left)
+    let a = c .before .before .before .before .before .before .before .args in
+    row-unmarked (c .before .before .before .before .before .before .before .pre .2 .reads) (a .on) (a .p) (restOf (now (a .s)) (a .p)) (sym (c .before .marked-from .ensures) ∙ c .if2 .left)
 
 returns-5 : tie.Need-returns-5
 returns-5 c =
-    let a = c .before .before .before .args in
-    row-unpermitted (a .on) (a .p) (restOf (now (a .s)) (a .p)) (sym (c .before .permits .ensures) ∙ c .if1 .left)
+    let a = c .before .before .before .before .args in
+    row-unpermitted (c .before .before .before .before .pre .2 .reads) (a .on) (a .p) (restOf (now (a .s)) (a .p)) (sym (c .before .permits .ensures) ∙ c .if1 .left)
 
 pub head-delimiter-row-spec : {M : Type 1} → statement M
 head-delimiter-row-spec =

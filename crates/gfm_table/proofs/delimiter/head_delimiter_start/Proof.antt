@@ -18,15 +18,15 @@ head-delimiter-row-requires c κs = search needs
 -- a byte of another kind
 returns : tie.Need-returns
 returns c =
-    let a = c .before .before .before .before .args in
+    let a = c .before .before .before .before .before .args in
     let r = c .before .match .rest .1 in
-    no-row (a .on) (a .p) (restOf (now (a .s)) (a .p)) (count-other (now (a .s)) (a .p .index) _ (c .before .before .ahead .ensures) (λ z. r (inl z)) (λ z. r (inr z)) (λ z. omega (arith, z, c .if1 .taken)) (λ z. omega (arith, z, c .if1 .taken)))
+    no-row (c .before .before .before .before .before .pre .2 .reads) (a .on) (a .p) (restOf (now (a .s)) (a .p)) (count-other (c .before .before .before .before .before .pre .2 .reads) (now (a .s)) (a .p .index) _ (c .before .before .ahead .ensures) (λ z. r (inl z)) (λ z. r (inr z)) (λ z. omega (arith, z, c .if1 .taken)) (λ z. omega (arith, z, c .if1 .taken)))
 
 returns-2 : tie.Need-returns-2
 returns-2 c =
-    let a = c .before .before .before .before .before .args in
+    let a = c .before .before .before .before .before .before .args in
     let r = c .before .before .match .rest .1 in
-    no-row (a .on) (a .p) (restOf (now (a .s)) (a .p)) (count-other (now (a .s)) (a .p .index) _ (c .before .before .before .ahead .ensures) (λ z. r (inl z)) (λ z. r (inr z)) (λ z. omega (arith, z, c .if2 .left)) (λ z. omega (arith, z, c .if2 .left)))
+    no-row (c .before .before .before .before .before .before .pre .2 .reads) (a .on) (a .p) (restOf (now (a .s)) (a .p)) (count-other (c .before .before .before .before .before .before .pre .2 .reads) (now (a .s)) (a .p .index) _ (c .before .before .before .ahead .ensures) (λ z. r (inl z)) (λ z. r (inr z)) (λ z. omega (arith, z, c .if2 .left)) (λ z. omega (arith, z, c .if2 .left)))
 
 returns-3 : tie.Need-returns-3
 returns-3 c = search needs

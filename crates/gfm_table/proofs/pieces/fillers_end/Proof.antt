@@ -7,7 +7,7 @@ use native.Mathlib.Omega.{arith}
 use borrow.Author.Needs.{needs}
 use lib.ListN.{length, drop}
 use denote.Ref.{now}
-use Rattle.tokenizer.specs.Bytes.{kindOf}
+use Rattle.tokenizer.specs.Bytes.{kindIn}
 use Rattle.gfm_table.specs.Delimiters.{fillerRun}
 use Rattle.tokenizer.proofs.Ahead.{Front, goes}
 use Rattle.gfm_table.proofs.Fillers.{fillers-stop}
@@ -17,10 +17,10 @@ use Rattle.gfm_table.proofs.pieces.fillers_end.Statement.{statement}
 use Rattle.gfm_table.proofs.pieces.fillers_end.Tie as tie
 
 abbrev Inv-loop : tie.InvT-loop
-Inv-loop s at i₀ i = i + length (fillerRun kindOf (lineFrom s i)) ≡ i₀ + length (fillerRun kindOf (lineFrom s i₀))
+Inv-loop s kinds at i₀ i = i + length (fillerRun (kindIn kinds) (lineFrom s i)) ≡ i₀ + length (fillerRun (kindIn kinds) (lineFrom s i₀))
 
 abbrev μ-loop : tie.MeasureT-loop
-μ-loop s at i₀ i = length s - i
+μ-loop s kinds at i₀ i = length s - i
 
 loop-holds : tie.Need-loop-holds Inv-loop μ-loop
 loop-holds c = refl
@@ -31,8 +31,8 @@ kind-at-requires c κs = search needs
 far : (c : tie.Joined1 Inv-loop μ-loop) → (c .before .before .kind-at .result < 1) ⊎ (3 < c .before .before .kind-at .result)
 far c = ⊎-elim (λ w. inl (omega arith)) (λ w. inr (omega arith)) (c .if1 .came)
 
-front : (c : tie.Joined1 Inv-loop μ-loop) → Front (now (c .before .before .before .before .before .args .s)) (c .before .before .before .loop .i) (c .before .before .kind-at .result)
-front c = goes _ _ _ (c .before .before .kind-at .ensures) (λ z. ⊎-elim (λ w. omega arith) (λ w. omega arith) (far c))
+front : (c : tie.Joined1 Inv-loop μ-loop) → Front (kindIn (now (c .before .before .before .before .before .before .args .kinds))) (now (c .before .before .before .before .before .before .args .s)) (c .before .before .before .loop .i) (c .before .before .kind-at .result)
+front c = goes (c .before .before .before .before .before .before .pre .reads) _ _ _ (c .before .before .kind-at .ensures) (λ z. ⊎-elim (λ w. omega arith) (λ w. omega arith) (far c))
 
 add-i : tie.Need-add-i Inv-loop μ-loop
 add-i c = let f = front c in omega (arith, f .below)
@@ -43,19 +43,19 @@ loop-less c = let f = front c in omega (arith, f .below)
 loop-again : tie.Need-loop-again Inv-loop μ-loop
 loop-again c =
     let l = c .before .before .before .loop in
-    omega (arith, fillers-more _ (l .i) _ (front c) (far c) (c .before .match .rest .1), l .inv)
+    omega (arith, fillers-more (c .before .before .before .before .before .before .pre .reads) _ (l .i) _ (front c) (far c) (c .before .match .rest .1), l .inv)
 
 returns : tie.Need-returns Inv-loop μ-loop
 returns c =
     let l = c .before .before .loop in
-    let s = now (c .before .before .before .before .args .s) in
-    omega (arith, ap length (fillers-stop (drop (l .i) s) (inl (sym (c .before .kind-at .ensures) ∙ c .match .keys1))), l .inv)
+    let s = now (c .before .before .before .before .before .args .s) in
+    omega (arith, ap length (fillers-stop (c .before .before .before .before .before .pre .reads) (drop (l .i) s) (inl (sym (c .before .kind-at .ensures) ∙ c .match .keys1))), l .inv)
 
 returns-2 : tie.Need-returns-2 Inv-loop μ-loop
 returns-2 c =
     let l = c .before .before .before .before .loop in
-    let s = now (c .before .before .before .before .before .before .args .s) in
-    omega (arith, ap length (fillers-stop (drop (l .i) s) (inr (omega arith, omega arith))), l .inv)
+    let s = now (c .before .before .before .before .before .before .before .args .s) in
+    omega (arith, ap length (fillers-stop (c .before .before .before .before .before .before .before .pre .reads) (drop (l .i) s) (inr (omega arith, omega arith))), l .inv)
 
 pub fillers-end-spec : {M : Type 1} → statement M
 fillers-end-spec =

@@ -14,7 +14,7 @@ line-stop-requires c κs = search needs
 
 cast-result : tie.Need-cast-result
 cast-result c =
-    let d = c .before .before in
+    let d = c .before .before .before in
     let a = d .args in
     let i = body-inside (now (a .s)) (pointIn 0 (a .at) 1) (inside-at (now (a .s)) (a .at) 1 (d .pre .0, d .pre .1, omega arith)) in
     record { fits = omega (arith, c .line-stop .ensures, i .within, i .short) }

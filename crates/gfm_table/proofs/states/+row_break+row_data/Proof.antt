@@ -11,7 +11,7 @@ use native.Mathlib.Nat.{pos-of-ne-zero}
 use mathlib.Core.Bool.{false}
 use mathlib.Core.List.{[], _∷_}
 use lib.ListN.{length, getD}
-use Rattle.tokenizer.specs.Bytes.{kindOf}
+use Rattle.tokenizer.specs.Bytes.{kindIn}
 use Rattle.tokenizer.specs.Lines.{indent}
 use Rattle.tokenizer.specs.Moves.{restOf}
 use Rattle.gfm_table.specs.Machine.{dataRun}
@@ -33,25 +33,25 @@ use Rattle.tokenizer.proofs.moves.space_end.Reads as space-end
 use Rattle.gfm_table.proofs.states.+row_break+row_data.{statement}
 use Rattle.gfm_table.proofs.states.+row_break+row_data.Tie.{close}
 
-abbrev μ-row-break : Measures 1 row-break-kinds.ps ℕ
-μ-row-break κs a = 2 * (length (now (a .0)) - a .1 .0 .at .index) + 1
+abbrev μ-row-break : Measures 2 row-break-kinds.ps ℕ
+μ-row-break κs a = 2 * (length (now (a .0)) - a .1 .1 .0 .at .index) + 1
 
-abbrev μ-row-data : Measures 1 row-data-kinds.ps ℕ
-μ-row-data κs a = 2 * (length (now (a .0)) - a .1 .0 .at .index)
+abbrev μ-row-data : Measures 2 row-data-kinds.ps ℕ
+μ-row-data κs a = 2 * (length (now (a .0)) - a .1 .1 .0 .at .index)
 
 module _ (t : ℕ) where
   -- what a member is given at the measure t, and what a call of it asks below t
-  abbrev break-at : In 1 row-break-kinds.ps
-  break-at = and 1 row-break-kinds.ps (is 1 row-break-kinds.ps μ-row-break t) row-break.Pre
+  abbrev break-at : In 2 row-break-kinds.ps
+  break-at = and 2 row-break-kinds.ps (is 2 row-break-kinds.ps μ-row-break t) row-break.Pre
 
-  abbrev break-below : In 1 row-break-kinds.ps
-  break-below = and 1 row-break-kinds.ps (falls 1 row-break-kinds.ps _<_ μ-row-break t) row-break.Pre
+  abbrev break-below : In 2 row-break-kinds.ps
+  break-below = and 2 row-break-kinds.ps (falls 2 row-break-kinds.ps _<_ μ-row-break t) row-break.Pre
 
-  abbrev data-at : In 1 row-data-kinds.ps
-  data-at = and 1 row-data-kinds.ps (is 1 row-data-kinds.ps μ-row-data t) row-data.Pre
+  abbrev data-at : In 2 row-data-kinds.ps
+  data-at = and 2 row-data-kinds.ps (is 2 row-data-kinds.ps μ-row-data t) row-data.Pre
 
-  abbrev data-below : In 1 row-data-kinds.ps
-  data-below = and 1 row-data-kinds.ps (falls 1 row-data-kinds.ps _<_ μ-row-data t) row-data.Pre
+  abbrev data-below : In 2 row-data-kinds.ps
+  data-below = and 2 row-data-kinds.ps (falls 2 row-data-kinds.ps _<_ μ-row-data t) row-data.Pre
 
   abbrev b : B.Claims
   b = (
@@ -77,24 +77,24 @@ module _ (t : ℕ) where
   -- ## Between pieces
 
   returns : B.Need-returns b break-at row-break.Post
-  returns c = let a = c .before .before in read-none _ (a .args .st) _ (c .if1 .taken) (a .pre .1)
+  returns c = let a = c .before .before in read-none (c .before .before .before .pre .1 .1 .reads) _ (a .before .args .st) _ (c .if1 .taken) (a .before .pre .1 .0)
 
   ahead-requires : B.Need-ahead-requires b break-at row-break.Post
   ahead-requires c κs = search needs
 
-  front : (c : B.After-ahead b break-at row-break.Post) (k : ℕ) → c .ahead .result ≡ k → (k ≡ 2 → ⊥) → Front (now (c .before .before .before .before .args .s)) (c .before .before .before .before .args .st .at .index) k
-  front c k e z = goes _ _ k (sym e ∙ c .ahead .ensures) z
+  front : (c : B.After-ahead b break-at row-break.Post) (k : ℕ) → c .ahead .result ≡ k → (k ≡ 2 → ⊥) → Front (kindIn (now (c .before .before .before .before .before .args .kinds))) (now (c .before .before .before .before .before .args .s)) (c .before .before .before .before .before .args .st .at .index) k
+  front c k e z = goes (c .before .before .before .before .before .pre .1 .1 .reads) _ _ k (sym e ∙ c .ahead .ensures) z
 
   -- whitespace
 
-  space : (c : B.At-match-keys1 b break-at row-break.Post) → let a = c .before .before .before .before .before .args in First (now (a .s)) (a .st .at) 1 (indent kindOf (restOf (now (a .s)) (a .st .at)))
-  space c = first-space _ _ 1 (front (c .before) 1 (c .match .keys1) (λ z. omega arith)) (c .before .before .before .before .before .pre .1 .inside) refl
+  space : (c : B.At-match-keys1 b break-at row-break.Post) → let a = c .before .before .before .before .before .before .args in First (kindIn (now (c .before .before .before .before .before .before .args .kinds))) (now (a .s)) (a .st .at) 1 (indent (kindIn (now (c .before .before .before .before .before .before .args .kinds))) (restOf (now (a .s)) (a .st .at)))
+  space c = first-space (c .before .before .before .before .before .before .pre .1 .1 .reads) _ _ 1 (front (c .before) 1 (c .match .keys1) (λ z. omega arith)) (c .before .before .before .before .before .before .pre .1 .0 .inside) refl
 
   space-end-requires : B.Need-space-end-requires b break-at row-break.Post
-  space-end-requires c κs = c .before .before .before .before .before .pre .1 .inside
+  space-end-requires c κs = (c .before .before .before .before .before .before .pre .1 .0 .inside, c .before .before .before .before .before .before .pre .1 .1)
 
   passed-requires : B.Need-passed-requires b break-at row-break.Post
-  passed-requires c κs = few-pieces _ _ (c .before .before .before .before .before .before .pre .1)
+  passed-requires c κs = few-pieces _ _ (c .before .before .before .before .before .before .before .pre .1 .0)
 
   sub-row-break : B.Need-sub-row-break b break-at row-break.Post
   sub-row-break c = pos-of-ne-zero (c .before .before .before .before .before .if1 .left)
@@ -103,11 +103,11 @@ module _ (t : ℕ) where
   row-break-requires c κs =
       let a = c .before .before .before .before .before .before .before in
       let f = space (c .before .before) in
-      rw (c .passed .ensures, c .before .space-end .ensures) (omega (arith, a .pre .0, bytes-fall _ _ _ _ f), step-counted _ (a .args .st) _ _ f (a .pre .1))
+      rw (c .passed .ensures, c .before .space-end .ensures) (omega (arith, a .before .pre .0, bytes-fall (c .before .before .before .before .before .before .before .before .pre .1 .1 .reads) _ _ _ _ f), (step-counted (c .before .before .before .before .before .before .before .before .pre .1 .1 .reads) _ (a .before .args .st) _ _ f (a .before .pre .1 .0), c .before .before .before .before .before .before .before .before .pre .1 .1))
 
   returns-2 : B.Need-returns-2 b break-at row-break.Post
   returns-2 c =
-      read-on _ _ _ _ _ _ (c .before .before .before .before .before .before .if1 .left) (space (c .before .before .before))
+      read-on (c .before .before .before .before .before .before .before .before .before .pre .1 .1 .reads) _ _ _ _ _ _ (c .before .before .before .before .before .before .if1 .left) (space (c .before .before .before))
       (rw (c .before .passed .ensures, c .before .before .space-end .ensures) at (c .row-break .ensures))
 
   -- the end of the line
@@ -115,21 +115,21 @@ module _ (t : ℕ) where
   returns-3 : B.Need-returns-3 b break-at row-break.Post
   returns-3 c =
       let a = c .before .before .before .before .before in
-      read-end _ (a .args .st) _ (c .before .before .before .if1 .left) (sym (c .before .ahead .ensures) ∙ c .match .keys2) (a .pre .1)
+      read-end (c .before .before .before .before .before .before .pre .1 .1 .reads) _ (a .before .args .st) _ (c .before .before .before .if1 .left) (sym (c .before .ahead .ensures) ∙ c .match .keys2) (a .before .pre .1 .0)
 
   -- a divider
 
-  divider : (c : B.At-match-keys3 b break-at row-break.Post) → let a = c .before .before .before .before .before .args in First (now (a .s)) (a .st .at) 10 (getD (now (a .s)) (a .st .at .index) 0 ∷ [])
-  divider c = first-divider _ _ 3 (front (c .before) 3 (c .match .keys3) (λ z. omega arith)) (c .before .before .before .before .before .pre .1 .inside) refl
+  divider : (c : B.At-match-keys3 b break-at row-break.Post) → let a = c .before .before .before .before .before .before .args in First (kindIn (now (c .before .before .before .before .before .before .args .kinds))) (now (a .s)) (a .st .at) 10 (getD (now (a .s)) (a .st .at .index) 0 ∷ [])
+  divider c = first-divider (c .before .before .before .before .before .before .pre .1 .1 .reads) _ _ 3 (front (c .before) 3 (c .match .keys3) (λ z. omega arith)) (c .before .before .before .before .before .before .pre .1 .0 .inside) refl
 
   over-requires : B.Need-over-requires b break-at row-break.Post
-  over-requires c κs = (c .before .before .before .before .before .pre .1 .inside, front (c .before) 3 (c .match .keys3) (λ z. omega arith) .below)
+  over-requires c κs = (c .before .before .before .before .before .before .pre .1 .0 .inside, front (c .before) 3 (c .match .keys3) (λ z. omega arith) .below)
 
   counted-requires : B.Need-counted-requires b break-at row-break.Post
-  counted-requires c κs = few-cells _ _ (c .before .before .before .before .before .before .pre .1)
+  counted-requires c κs = few-cells _ _ (c .before .before .before .before .before .before .before .pre .1 .0)
 
   passed-requires-2 : B.Need-passed-requires-2 b break-at row-break.Post
-  passed-requires-2 c κs = rw (c .counted .ensures) (few-pieces _ _ (c .before .before .before .before .before .before .before .pre .1))
+  passed-requires-2 c κs = rw (c .counted .ensures) (few-pieces _ _ (c .before .before .before .before .before .before .before .before .pre .1 .0))
 
   sub-row-break-2 : B.Need-sub-row-break-2 b break-at row-break.Post
   sub-row-break-2 c = pos-of-ne-zero (c .before .before .before .before .before .before .if1 .left)
@@ -138,19 +138,19 @@ module _ (t : ℕ) where
   row-break-requires-2 c κs =
       let a = c .before .before .before .before .before .before .before .before in
       let f = divider (c .before .before .before) in
-      rw (c .passed2 .ensures, c .before .counted .ensures, c .before .before .over .ensures) (omega (arith, a .pre .0, bytes-fall _ _ _ _ f), step-counted _ (a .args .st) _ _ f (a .pre .1))
+      rw (c .passed2 .ensures, c .before .counted .ensures, c .before .before .over .ensures) (omega (arith, a .before .pre .0, bytes-fall (c .before .before .before .before .before .before .before .before .before .pre .1 .1 .reads) _ _ _ _ f), (step-counted (c .before .before .before .before .before .before .before .before .before .pre .1 .1 .reads) _ (a .before .args .st) _ _ f (a .before .pre .1 .0), c .before .before .before .before .before .before .before .before .before .pre .1 .1))
 
   returns-4 : B.Need-returns-4 b break-at row-break.Post
   returns-4 c =
-      read-on _ _ _ _ _ _ (c .before .before .before .before .before .before .before .if1 .left) (divider (c .before .before .before .before))
+      read-on (c .before .before .before .before .before .before .before .before .before .before .pre .1 .1 .reads) _ _ _ _ _ _ (c .before .before .before .before .before .before .before .if1 .left) (divider (c .before .before .before .before))
       (rw (c .before .passed2 .ensures, c .before .before .counted .ensures, c .before .before .before .over .ensures) at (c .row-break2 .ensures))
 
   -- data
 
-  some : (c : B.At-match-rest b break-at row-break.Post) → let a = c .before .before .before .before .before .args in 0 < length (dataRun kindOf false (restOf (now (a .s)) (a .st .at)))
+  some : (c : B.At-match-rest b break-at row-break.Post) → let a = c .before .before .before .before .before .before .args in 0 < length (dataRun (kindIn (now (c .before .before .before .before .before .before .args .kinds))) false (restOf (now (a .s)) (a .st .at)))
   some c =
       let r = c .match .rest in
-      data-ahead _ _ _ (front (c .before) _ refl (r .0 .1)) (c .before .before .before .before .before .pre .1 .inside) (r .0 .0 .1) (r .1)
+      data-ahead (c .before .before .before .before .before .before .pre .1 .1 .reads) _ _ _ (front (c .before) _ refl (r .0 .1)) (c .before .before .before .before .before .before .pre .1 .0 .inside) (r .0 .0 .1) (r .1)
 
   sub-row-data : B.Need-sub-row-data b break-at row-break.Post
   sub-row-data c = pos-of-ne-zero (c .before .before .before .if1 .left)
@@ -158,30 +158,30 @@ module _ (t : ℕ) where
   row-data-requires : B.Need-row-data-requires b break-at row-break.Post
   row-data-requires c κs =
       let a = c .before .before .before .before .before in
-      (omega (arith, a .pre .0), record { counted = a .pre .1; some = some c })
+      (omega (arith, a .before .pre .0), (record { counted = a .before .pre .1 .0; some = some c }, c .before .before .before .before .before .before .pre .1 .1))
 
   returns-5 : B.Need-returns-5 b break-at row-break.Post
   returns-5 c =
       let a = c .before .before .before .before .before .before in
-      read-on _ _ _ _ _ _ (c .before .before .before .before .if1 .left) (first-data _ (a .args .st .at) (a .pre .1 .inside) (some (c .before))) (c .row-data .ensures)
+      read-on (c .before .before .before .before .before .before .before .pre .1 .1 .reads) _ _ _ _ _ _ (c .before .before .before .before .if1 .left) (first-data (c .before .before .before .before .before .before .before .pre .1 .1 .reads) _ (a .before .args .st .at) (a .before .pre .1 .0 .inside) (some (c .before))) (c .row-data .ensures)
 
   -- ## In data
 
   data-end-requires : D.Need-data-end-requires d data-at row-data.Post
-  data-end-requires c κs = c .before .before .pre .1 .counted .inside
+  data-end-requires c κs = (c .before .before .before .pre .1 .0 .counted .inside, c .before .before .before .pre .1 .1)
 
   data-counted-requires : D.Need-counted-requires d data-at row-data.Post
-  data-counted-requires c κs = few-cells _ _ (c .before .before .before .pre .1 .counted)
+  data-counted-requires c κs = few-cells _ _ (c .before .before .before .before .pre .1 .0 .counted)
 
   data-passed-requires : D.Need-passed-requires d data-at row-data.Post
-  data-passed-requires c κs = rw (c .counted .ensures) (few-pieces _ _ (c .before .before .before .before .pre .1 .counted))
+  data-passed-requires c κs = rw (c .counted .ensures) (few-pieces _ _ (c .before .before .before .before .before .pre .1 .0 .counted))
 
   data-row-break-requires : D.Need-row-break-requires d data-at row-data.Post
   data-row-break-requires c κs =
       let a = c .before .before .before .before .before in
-      let h = a .pre .1 .counted in
-      let f = first-data _ (a .args .st .at) (h .inside) (a .pre .1 .some) in
-      rw (c .passed .ensures, c .before .counted .ensures, c .before .before .data-end .ensures) (omega (arith, a .pre .0, bytes-fall _ _ _ _ f), step-counted _ (a .args .st) _ _ f h)
+      let h = a .before .pre .1 .0 .counted in
+      let f = first-data (c .before .before .before .before .before .before .pre .1 .1 .reads) _ (a .before .args .st .at) (h .inside) (a .before .pre .1 .0 .some) in
+      rw (c .passed .ensures, c .before .counted .ensures, c .before .before .data-end .ensures) (omega (arith, a .before .pre .0, bytes-fall (c .before .before .before .before .before .before .pre .1 .1 .reads) _ _ _ _ f), (step-counted (c .before .before .before .before .before .before .pre .1 .1 .reads) _ (a .before .args .st) _ _ f h, c .before .before .before .before .before .before .pre .1 .1))
 
   data-returns : D.Need-returns d data-at row-data.Post
   data-returns c = rw (c .before .passed .ensures, c .before .before .counted .ensures, c .before .before .before .data-end .ensures) at (c .row-break .ensures)

@@ -23,7 +23,7 @@ enum-known-c-3 : tie.Need-enum-known-c-3
 enum-known-c-3 c = search needs
 
 step-between-requires : tie.Need-step-between-requires
-step-between-requires c κs = rw (c .before .c3 .given .1) at (c .before .before .before .before .pre)
+step-between-requires c κs = let h = c .before .before .before .before .before .pre in (rw (c .before .c3 .given .1) at (h .0), h .1)
 
 enum-known-c-4 : tie.Need-enum-known-c-4
 enum-known-c-4 c = search needs
@@ -35,7 +35,7 @@ enum-known-c-5 : tie.Need-enum-known-c-5
 enum-known-c-5 c = search needs
 
 step-ended-requires : tie.Need-step-ended-requires
-step-ended-requires c κs = rw (c .before .c5 .given .1) at (c .before .before .before .before .pre)
+step-ended-requires c κs = rw (c .before .c5 .given .1) at (c .before .before .before .before .before .pre .0)
 
 enum-known-c-6 : tie.Need-enum-known-c-6
 enum-known-c-6 c = search needs

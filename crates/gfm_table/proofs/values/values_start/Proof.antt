@@ -4,6 +4,7 @@ use mathlib.Core.Path.{sym, _∙_}
 use native.Mathlib.Omega.{arith}
 use borrow.Author.Needs.{needs}
 use denote.Ref.{now}
+use Rattle.tokenizer.specs.Bytes.{kindIn}
 use Rattle.tokenizer.proofs.Ahead.{Front, goes}
 use Rattle.gfm_table.proofs.ValuePlaces.{row-led, row-plain}
 use Rattle.gfm_table.proofs.values.values_start.Statement.{statement}
@@ -15,23 +16,23 @@ spaces-end-requires c κs = search needs
 kind-at-requires : tie.Need-kind-at-requires
 kind-at-requires c κs = search needs
 
-front : (c : tie.Then1) → Front (now (c .before .before .before .before .args .s)) (c .before .before .spaces-end .result) 3
-front c = goes _ _ 3 (sym (c .if1 .taken) ∙ c .before .kind-at .ensures) (λ z. omega arith)
+front : (c : tie.Then1) → Front (kindIn (now (c .before .before .before .before .before .args .kinds))) (now (c .before .before .before .before .before .args .s)) (c .before .before .spaces-end .result) 3
+front c = goes (c .before .before .before .before .before .pre .1 .reads) _ _ 3 (sym (c .if1 .taken) ∙ c .before .kind-at .ensures) (λ z. omega arith)
 
 add-result : tie.Need-add-result
 add-result c = let f = front c in omega (arith, f .below)
 
 returns : tie.Need-returns
 returns c =
-    let a = c .before .before .before .before .args in
+    let a = c .before .before .before .before .before .args in
     let f = front c in
-    (omega (arith, f .below), row-led (now (a .s)) (a .at) 0 _ (c .before .before .spaces-end .ensures) f)
+    (omega (arith, f .below), row-led (c .before .before .before .before .before .pre .1 .reads) (now (a .s)) (a .at) 0 _ (c .before .before .spaces-end .ensures) f)
 
 returns-2 : tie.Need-returns-2
 returns-2 c =
     let d = c .before .before .before .before in
-    let a = d .args in
-    (d .pre, row-plain (now (a .s)) (a .at) 0 _ (c .before .before .spaces-end .ensures) (λ z. c .if1 .left (c .before .kind-at .ensures ∙ z)))
+    let a = d .before .args in
+    (d .before .pre .0, row-plain (c .before .before .before .before .before .pre .1 .reads) (now (a .s)) (a .at) 0 _ (c .before .before .spaces-end .ensures) (λ z. c .if1 .left (c .before .kind-at .ensures ∙ z)))
 
 pub values-start-spec : {M : Type 1} → statement M
 values-start-spec = tie.close (tie.spec spaces-end-requires kind-at-requires add-result returns returns-2)

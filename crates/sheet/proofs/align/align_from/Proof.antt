@@ -7,6 +7,7 @@ use borrow.Author.Needs.{needs}
 use borrow.Rule.Slice.PartMut.{mid-len}
 use lib.ListN.{length}
 use denote.Ref.{now}
+use Rattle.tokenizer.specs.Bytes.{kindIn}
 use Rattle.sheet.specs.Aligning.{lineAlignments}
 use Rattle.sheet.proofs.Slots.{put-filled, if-fits, if-not}
 use Rattle.sheet.proofs.align.align_from.Statement.{statement}
@@ -27,9 +28,9 @@ part-align-line-end c = search needs
 align-line-requires : tie.Need-align-line-requires
 align-line-requires c κs =
     let a = c .before .before .before .before in
-    let n = a .args .n in
-    let l = length (now (a .args .slots)) in
-    (a .pre .0, a .pre .1, omega (arith, a .pre .2, c .before .if1 .taken, mid-len n l (now (a .args .slots)) (omega arith)))
+    let n = a .before .args .n in
+    let l = length (now (a .before .args .slots)) in
+    (a .before .pre .0, a .before .pre .1, omega (arith, a .before .pre .2, c .before .if1 .taken, mid-len n l (now (a .before .args .slots)) (omega arith)), c .before .before .before .before .before .pre .4)
 
 same-length : tie.Need-same-length
 same-length c = search needs
@@ -37,14 +38,14 @@ same-length c = search needs
 returns : tie.Need-returns
 returns c =
     let a = c .before .before .before .before .before .before .before in
-    let h : a .args .n + length (lineAlignments (now (a .args .s)) (a .args .at)) ≤ length (now (a .args .slots)) = omega (arith, a .pre .2, c .before .before .before .before .if1 .taken) in
-    put-filled (a .args .n) (lineAlignments (now (a .args .s)) (a .args .at)) (now (a .args .slots)) h _ (c .before .before .align-line .ensures) ∙ sym (if-fits (a .args .n) (lineAlignments (now (a .args .s)) (a .args .at)) (now (a .args .slots)) h)
+    let h : a .before .args .n + length (lineAlignments (kindIn (now (c .before .before .before .before .before .before .before .before .args .kinds))) (now (a .before .args .s)) (a .before .args .at)) ≤ length (now (a .before .args .slots)) = omega (arith, a .before .pre .2, c .before .before .before .before .if1 .taken) in
+    put-filled (a .before .args .n) (lineAlignments (kindIn (now (c .before .before .before .before .before .before .before .before .args .kinds))) (now (a .before .args .s)) (a .before .args .at)) (now (a .before .args .slots)) h _ (c .before .before .align-line .ensures) ∙ sym (if-fits (a .before .args .n) (lineAlignments (kindIn (now (c .before .before .before .before .before .before .before .before .args .kinds))) (now (a .before .args .s)) (a .before .args .at)) (now (a .before .args .slots)) h)
 
 returns-2 : tie.Need-returns-2
 returns-2 c =
     let a = c .before .before .before in
-    let h : length (now (a .args .slots)) < a .args .n + length (lineAlignments (now (a .args .s)) (a .args .at)) = omega (arith, a .pre .2, c .if1 .left) in
-    sym (if-not (a .args .n) (lineAlignments (now (a .args .s)) (a .args .at)) (now (a .args .slots)) h)
+    let h : length (now (a .before .args .slots)) < a .before .args .n + length (lineAlignments (kindIn (now (c .before .before .before .before .args .kinds))) (now (a .before .args .s)) (a .before .args .at)) = omega (arith, a .before .pre .2, c .if1 .left) in
+    sym (if-not (a .before .args .n) (lineAlignments (kindIn (now (c .before .before .before .before .args .kinds))) (now (a .before .args .s)) (a .before .args .at)) (now (a .before .args .slots)) h)
 
 pub align-from-spec : {M : Type 1} → statement M
 align-from-spec = tie.close (tie.spec add-if1 sub-align-line part-align-line-start part-align-line-end align-line-requires same-length returns returns-2)

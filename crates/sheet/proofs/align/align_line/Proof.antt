@@ -11,7 +11,7 @@ align-rest-requires : tie.Need-align-rest-requires
 align-rest-requires c κs =
     let a = c .before .before .before .before in
     let v = c .before .values-from .ensures in
-    (a .pre .0, v .0, rw (v .1) (a .pre .2))
+    (a .before .pre .0, v .0, rw (v .1) (a .before .pre .2), c .before .before .before .before .before .pre .3)
 
 same-length : tie.Need-same-length
 same-length c = search needs

@@ -2,6 +2,7 @@
 -- Assumes nothing.
 use borrow.Author.Needs.{needs}
 use denote.Ref.{now}
+use Rattle.tokenizer.specs.Bytes.{kindIn}
 use Rattle.sheet.specs.Aligning.{lineFrom}
 use Rattle.sheet.proofs.Aligning.{marked-by}
 use Rattle.sheet.proofs.align.mark_at.Statement.{statement}
@@ -16,8 +17,8 @@ align-of-requires c κs = search needs
 returns : tie.Need-returns
 returns c =
     let r = c .before .before in
-    let a = r .before .before .args in
-    rw (c .before .align-of .ensures) (marked-by (lineFrom (now (a .s)) (a .at)) (a .at) _ (r .scan-stretch .ensures))
+    let a = r .before .before .before .args in
+    rw (c .before .align-of .ensures) (marked-by (kindIn (now (c .before .before .before .before .before .args .kinds))) (lineFrom (now (a .s)) (a .at)) (a .at) _ (r .scan-stretch .ensures))
 
 pub mark-at-spec : {M : Type 1} → statement M
 mark-at-spec = tie.close (tie.spec scan-stretch-requires align-of-requires returns)

@@ -6,7 +6,7 @@ use borrow.Author.Needs.{needs}
 use borrow.Author.Tests.{le-leb, lt-leb, eq-eqb, ne-eqb}
 use denote.Ref.{now}
 use lib.ListN.{drop}
-use Rattle.tokenizer.specs.Bytes.{kindOf}
+use Rattle.tokenizer.specs.Bytes.{kindIn}
 use Rattle.tokenizer.specs.Lines.{lineBody}
 use Rattle.gfm_table.specs.Rows.{rowPieces}
 use Rattle.gfm_table.specs.Heads.{loneDivider, solid}
@@ -22,7 +22,7 @@ returns c =
     rw (sym (r .head-row .ensures .lone) ∙ le-leb _ 1 (c .if1 .taken))
 
 -- there is more than a lone divider
-more : (c : tie.Else1) → let a = c .before .before .before .before .args in loneDivider (solid (rowPieces kindOf false (lineBody (drop (a .at) (now (a .s)))))) ≡ false
+more : (c : tie.Else1) → let a = c .before .before .before .before .before .args in loneDivider (solid (rowPieces (kindIn (now (c .before .before .before .before .before .args .kinds))) false (lineBody (drop (a .at) (now (a .s)))))) ≡ false
 more c = sym (c .before .before .head-row .ensures .lone) ∙ lt-leb _ 1 (c .if1 .left)
 
 returns-2 : tie.Need-returns-2

@@ -11,6 +11,7 @@ use denote.Ref.{now}
 use Rattle.tokenizer.specs.Bytes.{kindOf}
 use Rattle.tokenizer.specs.Points.{columnAfter, columnPast}
 use Rattle.tokenizer.specs.Lines.{indent}
+use Rattle.tokenizer.proofs.Bytes.{built}
 use Rattle.tokenizer.proofs.Ahead.{Front}
 use Rattle.tokenizer.proofs.Widths.{bytes-wide}
 use Rattle.gfm_table.proofs.Passing.{lineFrom, spaces-more}
@@ -31,8 +32,8 @@ loop-holds c =
     (omega arith, c .pre .0, ap (λ (k : ℕ). columnPast k (indent kindOf (lineFrom (now (a .s)) (a .at)))) (omega arith))
 
 -- a byte of the indent
-front : (c : tie.In-loop Inv-loop μ-loop) → Front (now (c .before .before .args .s)) (c .before .loop .i) 1
-front c = indent-front _ _ (omega (arith, c .before .loop .inv .1, c .loop-test .taken))
+front : (c : tie.In-loop Inv-loop μ-loop) → Front kindOf (now (c .before .before .args .s)) (c .before .loop .i) 1
+front c = indent-front built _ _ (omega (arith, c .before .loop .inv .1, c .loop-test .taken))
 
 shared-slice-read-if1 : tie.Need-shared-slice-read-if1 Inv-loop μ-loop
 shared-slice-read-if1 c = front (c .before) .below
@@ -43,7 +44,7 @@ led : (c : tie.In-loop Inv-loop μ-loop) → let a = c .before .before .args in 
 led c =
     let a = c .before .before .args in
     let l = c .before .loop in
-    sym (l .inv .2) ∙ space-column (now (a .s)) (l .i) (l .i + 1 - a .at) (front c)
+    sym (l .inv .2) ∙ space-column built (now (a .s)) (l .i) (l .i + 1 - a .at) (front c)
 
 returns : tie.Need-returns Inv-loop μ-loop
 returns c =
@@ -69,7 +70,7 @@ loop-again c =
     let s = now (a .s) in
     let u = indent kindOf (lineFrom s (l .i + 1)) in (
       omega (arith, l .inv .0),
-      omega (arith, l .inv .1, spaces-more s (l .i) (front w)),
+      omega (arith, l .inv .1, spaces-more built s (l .i) (front w)),
       ap (λ (k : ℕ). columnPast k u) (omega (arith, l .inv .0, byte-after (l .i + 1 - a .at) (getD s (l .i) 0) (c .if1 .left))) ∙ sym (led w),
     )
 

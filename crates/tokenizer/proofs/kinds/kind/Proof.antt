@@ -1,8 +1,8 @@
 -- `kinds::kind` meets its contract: the table lists `kindOf`, which is computed once over all 256 bytes.
 -- Assumes nothing.
 use borrow.Author.Needs.{needs}
-use Rattle.tokenizer.specs.Bytes.{kindOf}
-use Rattle.tokenizer.proofs.Table.{tabulated, lookup}
+use Rattle.tokenizer.specs.Bytes.{kindOf, tabulated}
+use Rattle.tokenizer.proofs.Table.{lookup}
 use Rattle.tokenizer.proofs.kinds.kind.Statement.{statement}
 use Rattle.tokenizer.proofs.kinds.kind.Tie as tie
 

@@ -17,8 +17,8 @@ ahead-requires c κs = search needs
 
 returns : tie.Need-returns
 returns c =
-    let a = c .before .before .before .args in
-    ap (λ (k : ℕ). eqb k 2) (rw (c .before .space-end .ensures) at (c .ahead .ensures)) ∙ sym (blank-ahead (now (a .s)) (a .p))
+    let a = c .before .before .before .before .args in
+    ap (λ (k : ℕ). eqb k 2) (rw (c .before .space-end .ensures) at (c .ahead .ensures)) ∙ sym (blank-ahead (c .before .before .before .before .pre .1 .reads) (now (a .s)) (a .p))
 
 pub is-blank-spec : {M : Type 1} → statement M
 is-blank-spec = tie.close (tie.spec space-end-requires ahead-requires returns)

@@ -1,16 +1,16 @@
--- `words::line_stop` meets its contract: the place stays within the text.
+-- `words::stop_at` meets its contract: the place stays within the text.
 -- Assumes nothing.
 use borrow.Author.Needs.{needs}
 use Prim.Native.Nat.{_≤_, _-_}
 use lib.ListN.{length}
-use Rattle.protocol.proofs.words.line_stop.Statement.{statement}
-use Rattle.protocol.proofs.words.line_stop.Tie as tie
+use Rattle.protocol.proofs.words.stop_at.Statement.{statement}
+use Rattle.protocol.proofs.words.stop_at.Tie as tie
 
 abbrev Inv-loop : tie.InvT-loop
-Inv-loop text at i₀ i = (at ≤ i) × (i ≤ length text)
+Inv-loop text at b i₀ i = (at ≤ i) × (i ≤ length text)
 
 abbrev μ-loop : tie.MeasureT-loop
-μ-loop text at i₀ i = length text - i
+μ-loop text at b i₀ i = length text - i
 
 loop-holds : tie.Need-loop-holds Inv-loop μ-loop
 loop-holds c = search needs
@@ -33,8 +33,8 @@ loop-again c = search needs
 returns-2 : tie.Need-returns-2 Inv-loop μ-loop
 returns-2 c = search needs
 
-pub line-stop-spec : {M : Type 1} → statement M
-line-stop-spec =
+pub stop-at-spec : {M : Type 1} → statement M
+stop-at-spec =
     tie.close
     (tie.spec
     Inv-loop
