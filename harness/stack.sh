@@ -1,5 +1,5 @@
 #!/bin/sh
-# Reads the worst sheets with a stack of 256 KB, then with smaller ones until one does not suffice.
+# Reads the worst sheets and makes many edits with a stack of 256 KB, then with smaller ones until one does not suffice.
 cd "$(dirname "$0")/bench" || exit 2
 cargo build --release --quiet --bin stack || exit 2
 stack=target/release/stack

@@ -237,8 +237,9 @@ uint8_t poolsheet_resolve(const poolsheet_event *list, size_t list_len,
  * Reads `list` and `pool`. An edit is five numbers of `edits`: the position in the list, the number of records removed there, where
  * the added records start in the pool, their number, and whether they come before earlier additions at that position (0 is no).
  * Numbers behind the last whole five are not looked at.
- * Writes `results` and `counts`: result events. Accepted, `edits` holds the same edits in the order of their positions; refused, it is
- * as it was.
+ * Writes `results` and `counts`: result events. Accepted, `edits` holds the same edits by rising position, those at equal positions in
+ * the order given; an edit that removes and adds nothing stands at its position too, also one beyond the list. Refused, it is as it was.
+ * The time for n edits grows as n (log n)^2 at most, as n where their positions rise already (lists and edits below 2^32).
  * Refuses by 11, 12.
  */
 uint8_t poolsheet_edit(const poolsheet_event *list, size_t list_len,

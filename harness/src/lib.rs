@@ -34,6 +34,7 @@ pub mod guard;
 pub mod kept;
 pub mod kinds;
 pub mod lines;
+pub mod orders;
 pub mod print;
 pub mod protocol;
 pub mod questions;

@@ -6,8 +6,11 @@ use crate::drive::Flags;
 use crate::kept::random::Random;
 use crate::kept::{self, sheet_cases};
 use crate::kinds::{self, BUILT_IN};
+use crate::orders::{fitting, Many, Wanted, FAULTS, ORDERS};
 use crate::print;
 use crate::protocol::answer;
+use crate::questions;
+use crate::read;
 use crate::record::{self, Record};
 use std::path::Path;
 
@@ -251,6 +254,34 @@ fn list_refusals_in_order() {
     let table = "1,4,0,0,0,0,0 1,11,0,0,0,0,0 1,14,0,0,0,0,0 1,12,0,0,0,0,0 2,14,0,0,0,0,0 2,11,0,0,0,0,0";
     assert_eq!(answer(&format!("align 0 0 {table}")), "14 0 | +0");
     assert_eq!(answer(&format!("align 0 2 {table}")), "0 1 | 4 +1");
+}
+
+#[test]
+fn orders_take_each_place_once() {
+    for order in &ORDERS {
+        for count in (2..70).chain([1_000]) {
+            let mut places = (order.places)(count, &mut Random::new(count as u64));
+            assert!(places.is_sorted() == (order.name == "rising") || count < 8, "{} {count}", order.name);
+            places.sort_unstable();
+            assert!(places.into_iter().eq(0..count), "{} {count}", order.name);
+        }
+    }
+}
+
+#[test]
+fn many_edits_fit_but_for_a_fault() {
+    let fit = |many: &Many| {
+        let edits: Vec<_> = many.fives.iter().map(read::edit).collect();
+        questions::edits_fit(many.list as usize, many.pool as usize, &edits)
+    };
+    for (count, equal) in (2..60).flat_map(|count| [0, 50, 100].map(|equal| (count, equal))) {
+        let many = || fitting(&mut Random::new(count as u64), &Wanted { count, pool: 7, equal });
+        assert!(fit(&many()) && many().fives.is_sorted_by_key(|five| five[0]), "{count} {equal}");
+        for fault in FAULTS {
+            let many = many().with(fault);
+            assert!(!fit(&many) && many.fives.len() == count, "{count} {equal} {fault:?}");
+        }
+    }
 }
 
 #[test]

@@ -92,7 +92,11 @@ pub fn resolve(list: &[Event], results: &mut [Event]) -> Result<usize, Refusal> 
 ///
 /// An edit is five numbers: the position in the list, the number of records removed there, where the added records start in the pool,
 /// their number, and whether they come before earlier additions at that position (0 is no). Numbers behind the last whole five are not
-/// looked at. Accepted, `edits` holds the same edits in the order of their positions; refused, it is as it was.
+/// looked at.
+///
+/// Accepted, `edits` holds the same edits by rising position, those at equal positions in the order given; an edit that removes and adds
+/// nothing stands at its position too, also one beyond the list. Refused, it is as it was. The time for n edits grows as n (log n)² at
+/// most, as n where their positions rise already (lists and edits below 2^32).
 pub fn edit(list: &[Event], edits: &mut [usize], pool: &[Event], results: &mut [Event]) -> Result<usize, Refusal> {
     let mut counts = [0; 1];
     // SAFETY: each pointer and length is that of a slice, and what is written is borrowed for it alone.

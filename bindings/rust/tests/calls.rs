@@ -163,6 +163,105 @@ fn edit_refused() {
     }
 }
 
+/// An edit that removes and adds nothing stands at its position too, also one beyond the list.
+#[test]
+fn edit_order_beyond_the_list() {
+    let mut edits = [9, 0, 0, 0, 0, 0, 1, 0, 0, 0];
+    assert_eq!(calls::edit(&numbered(0..1), &mut edits, &[], &mut []), Ok(0));
+    assert_eq!(edits, [0, 1, 0, 0, 0, 9, 0, 0, 0, 0]);
+}
+
+/// Edits of a list of four with a pool of three: at positions 1 and 3 they add, remove one, or do nothing; some do nothing elsewhere.
+const UNSORTED: [[usize; 5]; 9] = [
+    [3, 0, 2, 1, 0],
+    [1, 0, 0, 1, 0],
+    [usize::MAX, 0, 8, 0, 0],
+    [3, 0, 0, 0, 0],
+    [1, 1, 7, 0, 0],
+    [3, 0, 1, 1, 0],
+    [1, 0, usize::MAX, 0, 5],
+    [0, 0, 0, 0, 0],
+    [1, 0, 1, 1, usize::MAX],
+];
+
+#[test]
+fn edit_order() {
+    let (list, pool) = (numbered(0..4), numbered(10..13));
+    // The last numbers are no edit.
+    let mut edits = [UNSORTED.as_flattened(), &[77, 5, 0, 9]].concat();
+    let mut results = stale(9);
+    assert_eq!(calls::edit(&list, &mut edits, &pool, &mut results), Ok(7));
+    let indexes: Vec<u32> = results[..7].iter().map(|event| event.index).collect();
+    assert_eq!(indexes, [0, 11, 10, 2, 12, 11, 3]);
+    assert!(all_blank(&results[7..]));
+    let sorted = [7, 1, 4, 6, 8, 0, 3, 5, 2].map(|place| UNSORTED[place]);
+    assert_eq!(edits, [sorted.as_flattened(), &[77, 5, 0, 9]].concat());
+}
+
+#[test]
+fn edit_order_refused() {
+    let (list, pool) = (numbered(0..4), numbered(10..13));
+    for (last, slots, refusal) in [
+        // Position 1 lies inside what it removes; past the list; past the pool; more removed than any list has, twice.
+        ([0, 2, 0, 0, 0], 9, Refusal::EditsDoNotFit),
+        ([3, 2, 0, 0, 0], 9, Refusal::EditsDoNotFit),
+        ([4, 0, 2, 2, 0], 9, Refusal::EditsDoNotFit),
+        ([2, 1 << 32, 0, 0, 0], 9, Refusal::EditsDoNotFit),
+        ([2, usize::MAX, 0, 0, 0], 9, Refusal::EditsDoNotFit),
+        ([2, 1, 0, 1, 0], 6, Refusal::TooFewResultSlots),
+        ([2, 1, 0, 1, 0], 0, Refusal::TooFewResultSlots),
+    ] {
+        let given = [UNSORTED.as_flattened(), &last, &[77, 5, 0, 9]].concat();
+        let (mut edits, mut results) = (given.clone(), stale(slots));
+        assert_eq!(calls::edit(&list, &mut edits, &pool, &mut results), Err(refusal), "{last:?}");
+        assert!(all_blank(&results), "{last:?}");
+        assert_eq!(edits, given, "{last:?}");
+    }
+}
+
+/// How many edits are many.
+const MANY: usize = 20_000;
+
+/// Many edits, given in the order of these places: each replaces one of two records by one of the pool.
+fn replacing(places: impl Iterator<Item = usize>) -> Vec<usize> {
+    places.flat_map(|place| [2 * place, 1, place, 1, 0]).collect()
+}
+
+/// Falling, and in no order: 7,919 is prime, so that each place comes once.
+fn unsorted_many() -> [Vec<usize>; 2] {
+    [replacing((0..MANY).rev()), replacing((0..MANY).map(|place| place * 7_919 % MANY))]
+}
+
+#[test]
+fn many_edits() {
+    let (list, pool) = (numbered(0..2 * MANY as u32), numbered(100_000..100_000 + MANY as u32));
+    for mut edits in unsorted_many() {
+        let mut results = stale(2 * MANY);
+        assert_eq!(calls::edit(&list, &mut edits, &pool, &mut results), Ok(2 * MANY));
+        let replaced = (0..2 * MANY).map(|place| if place % 2 == 0 { pool[place / 2] } else { list[place] });
+        assert!(results.into_iter().eq(replaced));
+        assert!(edits == replacing(0..MANY));
+    }
+}
+
+#[test]
+fn many_edits_refused() {
+    let (list, pool) = (numbered(0..2 * MANY as u32), numbered(100_000..100_000 + MANY as u32));
+    for given in unsorted_many() {
+        for (list, pool, slots, refusal) in [
+            // The edit with the highest position reaches past the list, past the pool.
+            (&list[..2 * MANY - 2], &pool[..], 2 * MANY, Refusal::EditsDoNotFit),
+            (&list[..], &pool[..MANY - 1], 2 * MANY, Refusal::EditsDoNotFit),
+            (&list[..], &pool[..], 2 * MANY - 1, Refusal::TooFewResultSlots),
+        ] {
+            let (mut edits, mut results) = (given.clone(), stale(slots));
+            assert_eq!(calls::edit(list, &mut edits, pool, &mut results), Err(refusal));
+            assert!(all_blank(&results), "{refusal:?}");
+            assert!(edits == given, "{refusal:?}");
+        }
+    }
+}
+
 #[test]
 fn align() {
     let (_, results) = events(SHEET);

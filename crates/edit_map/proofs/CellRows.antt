@@ -40,7 +40,7 @@ use Rattle.edit_map.specs.CellRows.{cellOf, valueOf, insideOf, textLeft,
 use Rattle.edit_map.proofs.Cells.{enters, row-ends, marks-end}
 use Rattle.edit_map.proofs.Spans.{text-ahead, spaceNext, Goes, goes-none, goes-ends, next}
 use Rattle.edit_map.proofs.CellTurns.{first-named, is-data, row-at, marks-at}
-use Rattle.edit_map.proofs.Bools.{either, and-false, and-true}
+use Rattle.edit_order.proofs.Bools.{either, and-false, and-true}
 use Rattle.edit_map.proofs.RawRows.{Named, named, rows-named, delimiters-named}
 
 -- ## The slots of a step

@@ -20,7 +20,7 @@ use Rattle.edit_map.specs.Raw.{rowPiece}
 use Rattle.edit_map.specs.Tables.{rowInner}
 use Rattle.edit_map.specs.Cells.{textAhead, later, lastAhead, tail, tailMarks, rowTurn, markTurn}
 use Rattle.edit_map.specs.Spans.{opensAt, textNext, piecesFrom, ReachesAs}
-use Rattle.edit_map.proofs.Bools.{either}
+use Rattle.edit_order.proofs.Bools.{either}
 use Rattle.edit_map.proofs.Gives.{Fine, AllFine, also}
 use Rattle.edit_map.proofs.Streams.{sort-row, sort-delimiter, all-fine}
 use Rattle.edit_map.proofs.RawRows.{Named, named, rows-named, delimiters-named, passed-are}

@@ -15,7 +15,7 @@ use Rattle.edit_map.specs.Tables.{named, isText, isSolid, anySolid, anyT
 use Rattle.edit_map.specs.Cells.{textAhead, later, lastAhead, fromWithin, tail, valueEntered, valueLeft, marked, marksInner, tailMarks, opensCell, rowTurn, markTurn}
 use Rattle.edit_map.proofs.Parse.{no-nil}
 use Rattle.edit_map.proofs.Gives.{Tests, Sort, space, divider, text, Fine, AllFine, some-cell, cell, is-ahead, goes-on, last-is, value-cells, and-none, none-and}
-use Rattle.edit_map.proofs.Bools.{both-true, and-false, and-true, or-false, or-true}
+use Rattle.edit_order.proofs.Bools.{both-true, and-false, and-true, or-false, or-true, or-none}
 
 -- ## The names of pieces
 
@@ -90,10 +90,6 @@ after-none (x ∷ xs) = go (isText x || anyText xs) refl (after-none xs)
     go : (b : Bool) → isText x || anyText xs ≡ b → anyText (afterText xs) ≡ false → anyText (cond b (afterText xs) (x ∷ xs)) ≡ false
     go true e ih = ih
     go false e ih = e
-
-or-none : (a b : Bool) → a || b ≡ false → (a ≡ false) × (b ≡ false)
-or-none true b e = absurd (true≢false e)
-or-none false b e = (refl, e)
 
 -- pieces without a text are copied
 row-copied : (c : List Passed) → anyText c ≡ false → rowInner c ≡ allBoth c

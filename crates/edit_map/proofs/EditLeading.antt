@@ -11,11 +11,12 @@ use lib.Dec.{eqb}
 use borrow.Author.Tests.{eq-eqb, ne-eqb, eqb-true, eqb-false}
 use lib.ListN.{length, getD, take, drop, drop-of-length-le}
 use lib.Seq.{drop-cons}
-use Rattle.edit_map.specs.declared.edit_slots.Edit.{Edit}
-use Rattle.edit_map.specs.EditSlots.{noEdit}
-use Rattle.edit_map.specs.Edits.{here, removed, Rises}
+use Rattle.edit_order.specs.declared.edit_slots.Edit.{Edit}
+use Rattle.edit_order.specs.EditSlots.{noEdit}
+use Rattle.edit_order.specs.Edits.{here, removed}
+use Rattle.edit_order.specs.EditOrder.{Rises}
 use Rattle.edit_map.specs.EditCursor.{leading}
-use Rattle.edit_map.proofs.EditOrder.{here-below, rises-from}
+use Rattle.edit_order.proofs.EditOrder.{here-below, rises-from}
 
 -- ## Its size and its removals, counted one edit after the other
 

@@ -13,21 +13,22 @@ use borrow.Author.Tests.{eq-eqb, ne-eqb}
 use lib.ListN.{length, getD, drop, length-drop, drop-of-length-le}
 use lib.Seq.{drop-cons, drop-drop, drop-nil, getD-drop}
 use Rattle.tokenizer.specs.declared.event.Event.{Event}
-use Rattle.edit_map.specs.declared.edit_slots.Edit.{Edit}
+use Rattle.edit_order.specs.declared.edit_slots.Edit.{Edit}
 use Rattle.edit_map.specs.declared.edit_walk.Cursor.{Cursor}
 use Rattle.edit_map.specs.declared.edit_walk.Cursor.the-variants.{Between, Back, Forth, Done}
 use Rattle.edit_map.specs.declared.edit_walk.Stepped.{Stepped}
 use Rattle.edit_map.specs.declared.edit_walk.Stepped.the-variants as step
 use Rattle.edit_map.specs.declared.edit_walk.Origin.the-variants as origin
-use Rattle.edit_map.specs.EditSlots.{noEdit}
-use Rattle.edit_map.specs.Edits.{here, removed, addition, Rises}
+use Rattle.edit_order.specs.EditSlots.{noEdit}
+use Rattle.edit_order.specs.Edits.{here, removed, addition}
+use Rattle.edit_order.specs.EditOrder.{Rises}
 use Rattle.tokenizer.specs.Events.{blankEvent}
 use Rattle.tokenizer.specs.Slots.{slotsOf}
 use Rattle.edit_map.specs.EditCursor.{leading, front, back, backward, forward, toCome, steps, Comes, Stands, Ordered, Ready, Steps, Gives}
-use Rattle.edit_map.proofs.EditOrder.{here-below, edited-cong}
-use Rattle.edit_map.proofs.EditPlacing.{rises-after}
+use Rattle.edit_order.proofs.EditOrder.{here-below, rises-after}
+use Rattle.edit_order.proofs.EditSorted.{edited-cong}
 use Rattle.edit_map.proofs.EditLeading.{leading-here, leading-le, leads-on}
-use Rattle.edit_map.proofs.EditFitting.{fit-pool, fit-removed, removed-drop}
+use Rattle.edit_order.proofs.EditFitting.{fit-pool, fit-removed, removed-drop}
 use Rattle.edit_map.proofs.EditStepping.{edited-none, edited-end, comes-group, backward-start, forward-start, addition-on, addition-off}
 
 -- the edits from number i on rise from the position of edit i

@@ -10,14 +10,17 @@ use Rattle.tokenizer.specs.declared.event.Event.{Event}
 use Rattle.tokenizer.specs.Slots.{slotsOf}
 use Rattle.edit_map.specs.declared.edit_map.Edited.{Edited}
 use Rattle.edit_map.specs.declared.edit_map.Edited.the-variants.{Refused, Accepted}
-use Rattle.edit_map.specs.EditSlots.{editsOf}
-use Rattle.edit_map.specs.Edits.{editedList, editsFit, sorted}
+use Rattle.edit_order.specs.EditSlots.{editsOf}
+use Rattle.edit_order.specs.Edits.{editedList, editsFit}
+use Rattle.edit_order.specs.EditOrder.{sorted}
 use Rattle.edit_map.specs.EditAnswer.{answered, editAnswer, slotsAfter, recordsOf, editSlots, editResults}
-use Rattle.edit_map.specs.EditSettles.{resultCount, settled, startOf}
+use Rattle.edit_order.specs.EditCount.{resultCount}
+use Rattle.edit_map.specs.EditSettles.{settled, startOf}
 use Rattle.edit_map.specs.EditCursor.{toCome, Ready}
-use Rattle.edit_map.proofs.EditFives.{edits-held}
-use Rattle.edit_map.proofs.EditOrder.{rises-sorted, fits-sorted, edited-sorted}
-use Rattle.edit_map.proofs.EditCounted.{result-count}
+use Rattle.edit_order.proofs.EditSlots.{edits-held}
+use Rattle.edit_order.proofs.EditOrder.{rises-sorted}
+use Rattle.edit_order.proofs.EditSorted.{fits-sorted, edited-sorted}
+use Rattle.edit_order.proofs.EditCounted.{result-count}
 
 module _ (list pool : List Event) (l : List ℕ) (n : ℕ) where
   abbrev fits : Bool

@@ -5,14 +5,14 @@ use mathlib.Core.Path.{_≡_, sym, _∙_}
 use mathlib.Core.List.{List}
 use mathlib.Core.Bool.{true, false}
 use borrow.Author.Tests.{le-leb, lt-leb}
-use Rattle.edit_map.specs.declared.edit_slots.Edit.{Edit}
-use Rattle.edit_map.specs.declared.edit_count.Total.{Total}
-use Rattle.edit_map.specs.declared.edit_count.Total.the-variants.{Is, Over}
+use Rattle.edit_order.specs.declared.edit_slots.Edit.{Edit}
+use Rattle.edit_order.specs.declared.edit_count.Total.{Total}
+use Rattle.edit_order.specs.declared.edit_count.Total.the-variants.{Is, Over}
 use Rattle.edit_map.specs.declared.edit_map.Edited.the-variants.{Refused, Accepted}
-use Rattle.edit_map.specs.Edits.{editsFit}
-use Rattle.edit_map.specs.EditSettles.{resultCount, capped}
+use Rattle.edit_order.specs.Edits.{editsFit}
+use Rattle.edit_order.specs.EditCount.{resultCount, capped}
 use Rattle.edit_map.specs.EditSettles.{settled, settledBy}
-use Rattle.edit_map.proofs.EditSumming.{is-capped, over-capped}
+use Rattle.edit_order.proofs.EditSumming.{is-capped, over-capped}
 
 module _ (len pool slots : ℕ) (es : List Edit) where
   pub settle-misfit : editsFit len pool es ≡ false → settledBy (Refused 11) ≡ settled len pool slots es

@@ -12,12 +12,13 @@ use borrow.Author.Tests.{ne-eqb}
 use lib.ListN.{length, getD, take, drop, length-drop, length-take, drop-of-length-le}
 use lib.Seq.{drop-cons, take-suc, getD-take, getD-drop}
 use Rattle.tokenizer.specs.declared.event.Event.{Event}
-use Rattle.edit_map.specs.declared.edit_slots.Edit.{Edit}
-use Rattle.edit_map.specs.EditSlots.{noEdit}
-use Rattle.edit_map.specs.Edits.{here, removed, added, addition, edited, Rises}
+use Rattle.edit_order.specs.declared.edit_slots.Edit.{Edit}
+use Rattle.edit_order.specs.EditSlots.{noEdit}
+use Rattle.edit_order.specs.Edits.{here, removed, added, addition, edited}
+use Rattle.edit_order.specs.EditOrder.{Rises}
 use Rattle.tokenizer.specs.Events.{blankEvent}
 use Rattle.edit_map.specs.EditCursor.{leading, front, fronts, backs, backward, forward}
-use Rattle.edit_map.proofs.EditOrder.{edited-cong}
+use Rattle.edit_order.proofs.EditSorted.{edited-cong}
 use Rattle.edit_map.proofs.EditLeading.{leading-here, leading-le, take-leading, rest, here-rest, none-rest}
 
 -- ## A position with no edits, and one with a group

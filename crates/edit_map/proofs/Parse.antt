@@ -18,7 +18,7 @@ use Rattle.edit_map.specs.declared.resolve_accept.Reading.{Reading}
 use Rattle.edit_map.specs.Tables.{BodyRow, Table, rawBody, rawTable, rawTables}
 use Rattle.edit_map.specs.Raw.{enters, leaves, IsPiece, ArePieces, IsRow, IsLineEnd, AreRows, IsTable, AreTables, Parsed}
 use Rattle.edit_map.specs.Accept.{rowName, pieceOf, at, refused, ending, entryOf, afterRow, readIn, readStep, readAll, whole, accepted, accepts}
-use Rattle.edit_map.proofs.Bools.{both-true}
+use Rattle.edit_order.proofs.Bools.{both-true}
 
 -- ## What is left to read at each place
 

@@ -17,7 +17,7 @@ use Rattle.edit_map.specs.Accept.{accepts}
 use Rattle.edit_map.specs.TablesOf.{Behind, exitOf, rowExit, headExit, pieceEntry, rowEntry, lineEntry, headEntry, entered, left, behind, tablesOf, resolvedList}
 use Rattle.edit_map.proofs.Parse.{parsed}
 use Rattle.edit_map.proofs.Steps.{Resolves, resolves}
-use Rattle.edit_map.proofs.Bools.{both-true, either}
+use Rattle.edit_order.proofs.Bools.{both-true, either}
 
 -- ## One record
 

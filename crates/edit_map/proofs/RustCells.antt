@@ -21,7 +21,7 @@ use Rattle.edit_map.specs.RustEdits.{Deed, add, link, Span, if, groupNam
 use Rattle.edit_map.proofs.Gives.{all-after, none-last, some-cell}
 use Rattle.edit_map.proofs.RustMade.{Makes, copy, adds, removes, links, then, moved}
 use Rattle.edit_map.proofs.RustLoop.{Piece, OnePiece, Pieces, textAt, touch, fresh, spansOf, past, flush, flushes, leaves}
-use Rattle.edit_map.proofs.Bools.{and-false}
+use Rattle.edit_order.proofs.Bools.{and-false}
 
 -- ## The cells of a row as spans
 

@@ -16,7 +16,7 @@ use Rattle.edit_map.specs.Base.{isRowName, isTextName}
 use Rattle.edit_map.specs.Tables.{named, isText, isSolid, anySolid, cells, firstCell, otherCells, before}
 use Rattle.edit_map.specs.RustEdits.{Deed, add, link, Span, noSpan, Loop, inCells, Did, if, groupName, enterAt, leaveAt, flushValue, flushCell, enterText, enterDivider, leaveText, leaveRow, stays, turn, deedsFrom}
 use Rattle.edit_map.proofs.Gives.{Tests}
-use Rattle.edit_map.proofs.Bools.{and-false, or-false, or-true}
+use Rattle.edit_order.proofs.Bools.{and-false, or-false, or-true}
 
 -- ## Pieces, as the loop tells them
 

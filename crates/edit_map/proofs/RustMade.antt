@@ -12,8 +12,8 @@ use native.Mathlib.Numerals.{add-one}
 use borrow.Author.Tests.{eq-eqb, ne-eqb}
 use Rattle.tokenizer.specs.declared.event.Event.{Event}
 use Rattle.tokenizer.specs.Events.{linked}
-use Rattle.edit_map.specs.declared.edit_slots.Edit.{Edit}
-use Rattle.edit_map.specs.Edits.{here, removed, addition, added, removedAt, addedAt, edited}
+use Rattle.edit_order.specs.declared.edit_slots.Edit.{Edit}
+use Rattle.edit_order.specs.Edits.{here, removed, addition, added, removedAt, addedAt, edited}
 use Rattle.edit_map.specs.RustEdits.{Deed, add, link, poolOf, editsFrom, isLinked, linkAll}
 
 -- from the position p, the deeds ds and the events xs on, some events are made, up to another position

@@ -25,7 +25,7 @@ use Rattle.edit_map.proofs.Resolving.{Plain, row-plain, delimiter-plain
 use Rattle.edit_map.proofs.RustMade.{Makes, copy, adds, then, moved, made}
 use Rattle.edit_map.proofs.RustLoop.{Piece, OnePiece, Pieces, past, spansOf, flushes, leaves, inside, outside, Leaves, row-deeds}
 use Rattle.edit_map.proofs.RustCells.{here-is, next-is, inner, row-made}
-use Rattle.edit_map.proofs.Bools.{both-true, and-false}
+use Rattle.edit_order.proofs.Bools.{both-true, and-false}
 
 -- ## Pieces
 

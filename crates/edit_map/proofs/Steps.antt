@@ -29,7 +29,7 @@ use Rattle.edit_map.proofs.Gives.{Gives, none, more}
 use Rattle.edit_map.specs.Tables.{Table, rawTables, resolvedTables}
 use Rattle.edit_map.specs.Raw.{AreTables}
 use Rattle.edit_map.proofs.Streams.{tables-give}
-use Rattle.edit_map.proofs.Bools.{or-true, or-false}
+use Rattle.edit_order.proofs.Bools.{and-false, or-false, or-true}
 
 -- the look ahead at a cursor
 abbrev lookAt : List Event → Cursor → Look
@@ -253,17 +253,9 @@ briefly (e ∷ es) n a s = go (plusOf n 1) (eqb (e .name) SpaceOrTab) (isTextNam
 
 -- ## A step is a turn
 
-or-none : (b c : Bool) → b || c ≡ false → (b ≡ false) × (c ≡ false)
-or-none true c h = absurd (true≢false h)
-or-none false c h = (refl, h)
-
 and-three : (b c d : Bool) → b && c ≡ false → b && (c && d) ≡ false
 and-three true c d h = rw h
 and-three false c d h = refl
-
-and-false : (b : Bool) → b && false ≡ false
-and-false true = refl
-and-false false = refl
 
 -- whitespace, and the first divider of a row, open nothing
 abbrev Quiet : Bool → Bool → ℕ → Type 0

@@ -19,7 +19,7 @@ use Rattle.edit_map.proofs.Stream.{first}
 use Rattle.edit_map.specs.Base.{isRowName, isTextName}
 use Rattle.edit_map.specs.Turns.{cellName, plain, goesOn}
 use Rattle.edit_map.proofs.Gives.{Gives, none, more, then, moved, turned, Sort, space, divider, text, Ends, AllFine, done, also, innerOf, at, some-cell, pieces}
-use Rattle.edit_map.proofs.Bools.{both-true, either}
+use Rattle.edit_order.proofs.Bools.{both-true, either}
 
 -- ## The names of pieces are of a sort
 

@@ -8,8 +8,9 @@ use Rattle.tokenizer.specs.declared.event.Event.{Event}
 use Rattle.tokenizer.specs.Slots.{slotsOf}
 use Rattle.edit_map.specs.declared.edit_map.Edited.{Edited}
 use Rattle.edit_map.specs.declared.edit_map.Edited.the-variants.{Refused, Accepted}
-use Rattle.edit_map.specs.EditSlots.{editsOf, holding}
-use Rattle.edit_map.specs.Edits.{editsFit, editedList, sorted}
+use Rattle.edit_order.specs.EditSlots.{editsOf, holding}
+use Rattle.edit_order.specs.Edits.{editsFit, editedList}
+use Rattle.edit_order.specs.EditOrder.{sorted}
 
 -- questions 11 and 12, of a number of result records and of slots for them
 abbrev pub answered : Bool → ℕ → ℕ → Edited
@@ -20,7 +21,7 @@ abbrev pub editAnswer : List Event → List ℕ → List Event → ℕ → Edite
 editAnswer list edits pool n =
     answered (editsFit (length list) (length pool) (editsOf edits)) (length (editedList list pool (editsOf edits))) n
 
--- the edit slots at exit: by rising position where accepted, as they came where refused
+-- the edit slots at exit: where accepted, the edits in order (02, U5) and the numbers behind them as they were; where refused, as they came
 abbrev pub slotsAfter : Edited → List ℕ → List ℕ
 slotsAfter (Refused q) l = l
 slotsAfter (Accepted n) l = holding (sorted (editsOf l)) l

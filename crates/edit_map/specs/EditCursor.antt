@@ -8,7 +8,7 @@ use lib.ListN.{length, getD, take, drop}
 use Rattle.tokenizer.specs.declared.event.Event.{Event}
 use Rattle.tokenizer.specs.Events.{blankEvent}
 use Rattle.tokenizer.specs.Slots.{eventAt, slotsOf}
-use Rattle.edit_map.specs.declared.edit_slots.Edit.{Edit}
+use Rattle.edit_order.specs.declared.edit_slots.Edit.{Edit}
 use Rattle.edit_map.specs.declared.edit_walk.Cursor.{Cursor}
 use Rattle.edit_map.specs.declared.edit_walk.Cursor.the-variants.{Between, Back, Forth, Done}
 use Rattle.edit_map.specs.declared.edit_walk.Stepped.{Stepped}
@@ -16,8 +16,9 @@ use Rattle.edit_map.specs.declared.edit_walk.Stepped.the-variants as ste
 use Rattle.edit_map.specs.declared.edit_walk.Origin.{Origin}
 use Rattle.edit_map.specs.declared.edit_walk.Origin.the-variants as origin
 use Rattle.edit_map.specs.declared.edit_walk.Source.{Source}
-use Rattle.edit_map.specs.EditSlots.{noEdit}
-use Rattle.edit_map.specs.Edits.{addition, edited, editsFit, Rises}
+use Rattle.edit_order.specs.EditSlots.{noEdit}
+use Rattle.edit_order.specs.Edits.{addition, edited, editsFit}
+use Rattle.edit_order.specs.EditOrder.{Rises}
 
 -- the edits at position p that a list begins with
 unfoldable pub leading : ℕ → List Edit → List Edit

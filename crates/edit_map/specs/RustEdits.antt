@@ -8,9 +8,9 @@ use lib.ListN.{length}
 use Rattle.tokenizer.specs.declared.event.Event.{Event}
 use Rattle.tokenizer.specs.Slots.{eventAt}
 use Rattle.tokenizer.specs.Events.{GfmTable, GfmTableBody, GfmTableHead, GfmTableCell, GfmTableCellText, GfmTableCellDivider, GfmTableDelimiterRow, GfmTableDelimiterCell, GfmTableDelimiterCellValue, enter, leave, linked, pointOf}
-use Rattle.edit_map.specs.declared.edit_slots.Edit.{Edit}
+use Rattle.edit_order.specs.declared.edit_slots.Edit.{Edit}
 use Rattle.edit_map.specs.Base.{isRowName, isTextName}
-use Rattle.edit_map.specs.Edits.{editedList}
+use Rattle.edit_order.specs.Edits.{editedList}
 
 -- what the loop does to the map and the events: `map.add`, with a position, a number removed and the events added; or the text link set on the event at a position
 pub data Deed : Type 0 where

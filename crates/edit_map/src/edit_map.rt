@@ -1,16 +1,16 @@
 // The edit map: edits of a list of events, with additions from a pool.
-use crate::edit_count;
-use crate::edit_count::Total;
-use crate::edit_fits;
-use crate::edit_sort;
 use crate::edit_walk;
 use crate::edit_walk::Cursor;
+use edit_order::edit_count;
+use edit_order::edit_count::Total;
+use edit_order::edit_fits;
+use edit_order::edit_sort;
 use tokenizer::event::Event;
 use tokenizer::slots;
 ghost use mathlib.Core.Path.{_≡_};
 ghost use lib.ListN.{length};
 ghost use Rattle.tokenizer.specs.Slots.{slotsOf};
-ghost use Rattle.edit_map.specs.EditSlots.{editsOf};
+ghost use Rattle.edit_order.specs.EditSlots.{editsOf};
 ghost use Rattle.edit_map.specs.EditAnswer.{slotsAfter, editAnswer, editSlots, editResults};
 ghost use Rattle.edit_map.specs.EditSettles.{settled, settledBy};
 ghost use Rattle.edit_map.specs.EditCursor.{toCome, Ready};

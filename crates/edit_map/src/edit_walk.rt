@@ -1,11 +1,11 @@
 // The records of the result, one after the other, over edits that rise and fit.
-use crate::edit_slots;
+use edit_order::edit_slots;
 use tokenizer::event::Event;
 ghost use mathlib.Core.Path.{_≡_};
 ghost use Prim.Native.Nat.{_<_, _≤_, _+_, _^_};
 ghost use lib.ListN.{length, drop};
-ghost use Rattle.edit_map.specs.EditSlots.{editsOf};
-ghost use Rattle.edit_map.specs.Edits.{removed};
+ghost use Rattle.edit_order.specs.EditSlots.{editsOf};
+ghost use Rattle.edit_order.specs.Edits.{removed};
 ghost use Rattle.edit_map.specs.EditCursor.{leading, chosen, Ready, Steps, Gives};
 
 // Edits of one position, side by side: how many, and what they remove together.

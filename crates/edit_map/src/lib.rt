@@ -3,11 +3,7 @@
 pub mod cell_rows;
 pub mod cell_spans;
 pub mod cell_steps;
-pub mod edit_count;
-pub mod edit_fits;
 pub mod edit_map;
-pub mod edit_slots;
-pub mod edit_sort;
 pub mod edit_walk;
 pub mod infer;
 pub mod infer_step;

@@ -18,8 +18,7 @@ use Rattle.tokenizer.proofs.Ahead.{Front, goes, rest-end}
 use Rattle.gfm_table.specs.Heads.{shallow}
 use Rattle.gfm_table.specs.Places.{pointIn}
 use Rattle.gfm_table.proofs.Passing.{lineFrom, spaces-stop}
-use Rattle.edit_map.proofs.Bools.{and-true}
-use Rattle.edit_map.proofs.EditTesting.{or-true}
+use Rattle.edit_order.proofs.Bools.{and-true, or-true}
 use Rattle.sheet.specs.Walk.{remark, closes}
 use Rattle.sheet.proofs.Tests.{test, either-false}
 
@@ -30,7 +29,7 @@ module _ (kind : ℕ → ℕ) (u : List ℕ) where
 
   pub remark-closes : remark kind u ≡ true → closes kind u ≡ true
   unfolding closes
-  remark-closes h = or-true (blank kind u) (remark kind u) h
+  remark-closes h = rw h (or-true (blank kind u))
 
   -- a line that ends a table and is not blank is a remark
   pub closes-remark : closes kind u ≡ true → blank kind u ≡ false → remark kind u ≡ true

@@ -263,7 +263,7 @@ pub data Read (kind : ℕ → ℕ) (on : Bool) : List Placed → List Found → 
 abbrev pub Walked : (ℕ → ℕ) → Type 0
 Walked kind = (on : Bool) (s : List ℕ) (fs : List Found) → (fs ≡ tables kind on s) ↔ Read kind on (placedLines s) fs
 
--- no line of a table is a remark: a head line is none, and neither is a delimiter line
+-- the delimiter line of a table is no remark; its head line and its rows are none by `opens` and by where a body ends
 abbrev pub NoRemark : (ℕ → ℕ) → Type 0
 NoRemark kind = (on : Bool) (l d : Placed) → opens kind on l d ≡ true → remark kind (d .line .body) ≡ false
 

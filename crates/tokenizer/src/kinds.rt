@@ -1,4 +1,4 @@
-// The kind of each byte value, by 01's table.
+// The kind of each byte value: 01's table, which is built in, and a lent one (02, U9).
 ghost use mathlib.Core.Path.{_≡_};
 ghost use mathlib.Core.Bool.{_&&_};
 ghost use Prim.Native.Nat.{_<_, _+_};

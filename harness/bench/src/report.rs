@@ -31,12 +31,12 @@ fn kilobytes(size: usize) -> String {
 }
 
 /// A row of a Markdown table.
-fn line(cells: &[String]) -> String {
+pub fn line(cells: &[String]) -> String {
     format!("| {} |\n", cells.join(" | "))
 }
 
 /// The head and the delimiter row: the first columns are texts, the others numbers.
-fn heading(names: &[String], texts: usize) -> String {
+pub fn heading(names: &[String], texts: usize) -> String {
     let values: Vec<&str> = (0..names.len()).map(|place| if place < texts { "---" } else { "---:" }).collect();
     format!("{}|{}|\n", line(names), values.join("|"))
 }

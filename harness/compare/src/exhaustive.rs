@@ -225,8 +225,8 @@ pub fn align_records(tally: &mut Tally, length: usize, part: Part) {
 }
 
 /// Records that tell their place.
-fn counted(count: u64, kind: u64) -> Vec<Record> {
-    (0..count).map(|place| Record { kind, name: 1 + place, index: place, ..Record::default() }).collect()
+pub fn counted(count: u64, kind: u64) -> Vec<Record> {
+    (0..count).map(|place| Record { kind, name: 1 + place % 250, index: place, ..Record::default() }).collect()
 }
 
 /// So many edits on lists of up to three records with a pool of two.
@@ -244,4 +244,25 @@ pub fn edits(tally: &mut Tally, length: usize, part: Part) {
     for list in lists.map(|count| counted(count, 1)) {
         each_word(&alphabet, length, part, |edits| asks::edit(tally, &list, edits, &pool));
     }
+}
+
+/// So many edits on a list of four records. Each tells its place by where the records that it adds start in the pool. Up to five remove,
+/// add, do both or nothing, at four positions; six do not do both, at three; more only add, or do nothing behind the list's end.
+pub fn edit_orders(tally: &mut Tally, length: usize, part: Part) {
+    let (positions, kinds): (usize, &[[usize; 3]]) = match length {
+        0..=5 => (4, &[[0, 0, 0], [1, 0, 0], [0, 1, 0], [1, 1, 1]]),
+        6 => (3, &[[0, 0, 0], [1, 0, 0], [0, 1, 0]]),
+        _ => (4, &[[0, 1, 0]]),
+    };
+    let mut alphabet: Vec<Five> = vec![];
+    for position in 0..positions {
+        alphabet.extend(kinds.iter().map(|&[removed, count, before]| [position, removed, 0, count, before]));
+    }
+    alphabet.push([9, 0, 0, 0, 0]);
+    let (list, pool) = (counted(4, 1), counted(8, 2));
+    each_word(&alphabet, length, part, |edits| {
+        let mut edits = edits.to_vec();
+        (0..length).for_each(|place| edits[place][2] = place);
+        asks::edit(tally, &list, &edits, &pool);
+    });
 }

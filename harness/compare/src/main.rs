@@ -10,6 +10,7 @@ mod exhaustive;
 mod expected;
 mod listed;
 mod lists;
+mod many;
 mod ours;
 mod sheets;
 mod tally;
@@ -26,6 +27,10 @@ use std::time::{Duration, Instant};
 use tally::Tally;
 
 const THREADS: usize = 2;
+
+/// Edits that are some dozens, or many.
+const FEW: usize = 64;
+const MANY: usize = 2_000;
 
 /// What the command line asks for.
 struct Asked {
@@ -72,11 +77,15 @@ fn in_threads(name: &str, total: &mut Tally, work: impl Fn(&mut Tally, Part) + S
 fn compare_exhaustively(total: &mut Tally) {
     type Work = fn(&mut Tally, usize, Part);
     in_threads("tables of kinds, one or two entries changed", total, exhaustive::changed_kinds);
-    let inputs: [(&str, usize, Work); 11] = [
+    in_threads("edit, many edits in each order", total, |tally, part| {
+        (2..=FEW).chain([MANY]).for_each(|count| many::each_order(tally, count, part));
+    });
+    let inputs: [(&str, usize, Work); 12] = [
         ("resolve, records,", 4, exhaustive::resolve_records),
         ("resolve, pieces a row,", 7, exhaustive::resolve_tables),
         ("align, records,", 7, exhaustive::align_records),
         ("edit, edits,", 3, exhaustive::edits),
+        ("edit, edits in any order,", 8, exhaustive::edit_orders),
         ("all shapes, 65,536 bytes and", 1, exhaustive::longest_sheets),
         ("heads and rows, bytes,", 6, exhaustive::heads_and_rows),
         ("heads and rows, parts with marks,", 4, exhaustive::marked_lines),
@@ -120,10 +129,21 @@ fn random_case(tally: &mut Tally, random: &mut Random) {
         8 | 9 => random_sheet_with(tally, random),
         10 => random_kinds(tally, random),
         _ => {
-            let lists::ToEdit { list, edits, pool } = lists::to_edit(random);
+            let lists::ToEdit { list, edits, pool } = random_edits(random);
             asks::edit(tally, &list, &edits, &pool);
         }
     }
+}
+
+/// Edits of any kind, dozens that mostly fit, or at times thousands.
+fn random_edits(random: &mut Random) -> lists::ToEdit {
+    let most = match random.below(2_000) {
+        0 => 2 * MANY,
+        1..600 => FEW,
+        _ => return lists::to_edit(random),
+    };
+    let count = 2 + random.below(most as u64) as usize;
+    many::any(random, count)
 }
 
 fn random_sheet(tally: &mut Tally, random: &mut Random) {

@@ -3,12 +3,10 @@
 use super::random::Random;
 use super::{slot_choices, Kept, PLENTY};
 use crate::calls;
+use crate::orders::{fitting, Fault, Five, Wanted, ORDERS};
 use crate::print;
 use crate::read;
 use crate::record::Record;
-
-/// Position, removed, pool start, pool count, before.
-type Five = [u64; 5];
 
 const HUGE: u64 = u64::MAX;
 
@@ -111,6 +109,7 @@ pub fn kept() -> Kept {
     add_empty(&mut kept);
     add_single(&mut kept);
     add_random(&mut kept);
+    add_orders(&mut kept);
     kept
 }
 
@@ -200,4 +199,21 @@ fn random_edit(random: &mut Random, list: u64, pool: u64) -> Five {
     let start = random.below(pool + 1);
     let count = if random.percent(96) { random.below(pool - start + 1) } else { random.below(4) };
     [position, removed, start, count, random.below(2)]
+}
+
+/// Up to 51 edits, as many as the gate's program takes, in each order, at positions apart and at equal ones; and the same with a fault.
+fn add_orders(kept: &mut Kept) {
+    let faults = [Fault::Overlap, Fault::List, Fault::Pool, Fault::Removed(1 << 32)];
+    for (size, (count, equal)) in [(8, 0), (16, 100), (33, 30), (51, 80)].into_iter().enumerate() {
+        for (place, order) in ORDERS.iter().enumerate() {
+            let wanted = Wanted { count, pool: 7, equal };
+            let seed = (100 * count + place) as u64;
+            let many = || fitting(&mut Random::new(seed), &wanted);
+            let fault = faults[(size + place) % faults.len()];
+            for many in [many(), many().with(fault)] {
+                let many = many.given(order, &mut Random::new(seed));
+                add(kept, &counted(many.list, 1), &many.fives, &counted(many.pool, 2), false);
+            }
+        }
+    }
 }

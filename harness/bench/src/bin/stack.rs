@@ -1,11 +1,14 @@
-//! Reads the worst sheets of 65,536 bytes through our six calls, all slots on the heap, and tells the stack they take.
+//! Reads the worst sheets of 65,536 bytes through our six calls and makes 64,000 edits, all slots on the heap, and tells
+//! the stack they take.
 //!
 //!     stack [--thread KILOBYTES]
 //!
 //! Each shape is first read in the main thread, whose stack `ulimit -s` bounds, then once more in a thread whose stack
-//! was filled with a mark before the call. So are all short patterns over and over, to find a deeper one. With
-//! `--thread` the shapes are only read, in a thread with a stack of that size.
+//! was filled with a mark before the call. So are the edits made, and so are all short patterns read over and over, to find
+//! a deeper one. With `--thread` the shapes are only read and the edits only made, in a thread with a stack of that size.
 
+use bench::edits::{Call as EditCall, Outcome, OUTCOMES};
+use harness::orders::{Order, FALLING, RANDOM};
 use harness::shapes::{self, Shape};
 use poolsheet::{Event, HeadFlags, SheetSlots};
 use std::process::ExitCode;
@@ -22,8 +25,11 @@ const MARK: u64 = 0xa5a5_5a5a_a5a5_5a5a;
 const BYTES: &[u8; 8] = b"a|\\ \t-:\n";
 const LONGEST: u32 = 3;
 const PATTERN_SIZE: usize = 8_192;
-/// The edits of the edit call.
+/// The edits of the edit call on a shape's events.
 const EDITS: usize = 2_000;
+/// The edits that are made in these orders, accepted and refused.
+const MANY: usize = 64_000;
+const ORDERS: [Order; 2] = [FALLING, RANDOM];
 
 /// Slots of each kind, and a sheet's own events as lists for the other calls.
 struct Lent {
@@ -96,7 +102,7 @@ const CALLS: [Call; 6] = [
 
 /// The number of bytes of stack below here that the call touches.
 #[inline(never)]
-fn depth_of(call: fn(&mut Lent) -> u8, lent: &mut Lent) -> usize {
+fn depth_of<T>(call: fn(&mut T) -> u8, lent: &mut T) -> usize {
     let mut here = [0u64; 1];
     let top = here.as_mut_ptr().wrapping_byte_sub(MARGIN);
     let bottom = top.wrapping_byte_sub(MARKED);
@@ -155,13 +161,32 @@ fn read(shape: &Shape) -> (u8, [usize; 4]) {
     (sheet, lent.counts)
 }
 
-fn main() -> ExitCode {
-    let words: Vec<String> = std::env::args().skip(1).collect();
-    if let [_, kilobytes] = &words[..] {
-        let stack = kilobytes.parse::<usize>().expect("a number of kilobytes") << 10;
-        let all_read = shapes::all().all(|shape| in_thread(stack, move || read(shape)).0 == 0);
-        return if all_read { ExitCode::SUCCESS } else { ExitCode::FAILURE };
-    }
+/// Many edits in each order, accepted and refused.
+fn many_edits() -> impl Iterator<Item = (&'static Order, Outcome)> {
+    ORDERS.iter().flat_map(|order| OUTCOMES.map(|outcome| (order, outcome)))
+}
+
+/// Makes many edits in a thread with a stack of a size. The answer is checked outside.
+fn make_in(stack: usize, order: &Order, outcome: Outcome) {
+    let mut edits = EditCall::new(order, outcome, MANY);
+    let (edits, number) = in_thread(stack, move || {
+        let number = edits.ask();
+        (edits, number)
+    });
+    edits.check(number);
+}
+
+/// Makes many edits in this thread, then in one that is measured: the bytes of stack.
+fn depth_of_edits(order: &Order, outcome: Outcome) -> usize {
+    let mut edits = EditCall::new(order, outcome, MANY);
+    let number = edits.ask();
+    edits.check(number);
+    edits.prepare();
+    in_thread(STACK, move || depth_of(EditCall::ask, &mut edits))
+}
+
+/// Tells of each shape; the deepest one's bytes of stack, or nothing if one is refused.
+fn tell_shapes() -> Option<usize> {
     let mut deepest = 0;
     for shape in shapes::all() {
         let (number, [tables, raw, results, alignments]) = read(shape);
@@ -170,11 +195,29 @@ fn main() -> ExitCode {
         let counts = format!("{tables} tables, {raw} raw events, {results} results, {alignments} alignments");
         println!("{}: answer {number}, {counts}; bytes of stack: {}", shape.name, calls.join(", "));
         if number != 0 {
-            return ExitCode::FAILURE;
+            return None;
         }
         deepest = depths.into_iter().fold(deepest, usize::max);
     }
+    Some(deepest)
+}
+
+fn main() -> ExitCode {
+    let words: Vec<String> = std::env::args().skip(1).collect();
+    if let [_, kilobytes] = &words[..] {
+        let stack = kilobytes.parse::<usize>().expect("a number of kilobytes") << 10;
+        many_edits().for_each(|(order, outcome)| make_in(stack, order, outcome));
+        let all_read = shapes::all().all(|shape| in_thread(stack, move || read(shape)).0 == 0);
+        return if all_read { ExitCode::SUCCESS } else { ExitCode::FAILURE };
+    }
+    let Some(deepest) = tell_shapes() else {
+        return ExitCode::FAILURE;
+    };
     println!("deepest shape: {deepest} bytes of stack");
+    for (order, outcome) in many_edits() {
+        let depth = depth_of_edits(order, outcome);
+        println!("{MANY} edits, {}: answer {}; bytes of stack: edit {depth}", order.name, outcome.number());
+    }
     let (depth, pattern) = in_thread(STACK, deepest_pattern);
     println!("deepest pattern: {depth} bytes of stack, {pattern}");
     ExitCode::SUCCESS

@@ -6,6 +6,7 @@ use denote.Ref.{now}
 use Rattle.edit_map.proofs.CellRows.{mark-step}
 use Rattle.edit_map.proofs.cell_steps.mark_step.Statement.{statement}
 use Rattle.edit_map.proofs.cell_steps.mark_step.Tie as tie
+use Rattle.edit_order.proofs.Bools.{either}
 
 returns : tie.Need-returns
 returns c =

@@ -7,6 +7,7 @@ use Rattle.gfm_table.specs.declared.stream.Part.the-variants.{Body}
 use Rattle.edit_map.proofs.CellRows.{next-fits, text-step}
 use Rattle.edit_map.proofs.cell_steps.text_step.Statement.{statement}
 use Rattle.edit_map.proofs.cell_steps.text_step.Tie as tie
+use Rattle.edit_order.proofs.Bools.{either}
 
 reach-from-requires : tie.Need-reach-from-requires
 reach-from-requires c κs =

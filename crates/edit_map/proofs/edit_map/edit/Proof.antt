@@ -4,7 +4,7 @@ use Rattle.tokenizer.proofs.Prelude.{_≡_, refl, sym, _∙_, ap, subst, ℕ, z
 use Rattle.edit_map.proofs.EditTypes.{Cr, cr, Ed, ed, ed-ty, Sd, sd, sd-ty, sd-answer, sd-start}
 use Rattle.tokenizer.proofs.Types.{Ev}
 use Rattle.tokenizer.specs.Slots.{slotsOf}
-use Rattle.edit_map.specs.EditSlots.{editsOf}
+use Rattle.edit_order.specs.EditSlots.{editsOf}
 use Rattle.edit_map.specs.EditAnswer.{slotsAfter, editAnswer, editSlots, editResults}
 use Rattle.edit_map.specs.EditSettles.{settled}
 use Rattle.edit_map.specs.EditCursor.{toCome, Ready}

@@ -6,7 +6,7 @@ use Rattle.tokenizer.proofs.Types.{Ev, ev, ev-ty}
 use Rattle.tokenizer.specs.Events.{blankEvent}
 use Rattle.tokenizer.specs.Slots.{eventAt, slotsOf}
 use Rattle.tokenizer.proofs.Filling as F
-use Rattle.edit_map.specs.EditSlots.{editsOf}
+use Rattle.edit_order.specs.EditSlots.{editsOf}
 use Rattle.edit_map.specs.EditCursor.{toCome, recordAt, Ready, Gives}
 use Rattle.edit_map.proofs.EditTold.{calls-told}
 use Rattle.edit_map.proofs.edit_walk.next as edit-walk-next

@@ -1,10 +1,14 @@
--- `edit_map::settle` meets its contract.
+-- `edit_map::settle` meets its contract: question 11 leaves the slots as they came, so that all else is asked of those.
 -- Assumes nothing.
-use mathlib.Core.Path.{sym, _∙_}
+use Prim.Native.Nat.{ℕ}
+use mathlib.Core.Path.{_≡_, sym, _∙_, ap}
+use mathlib.Core.List.{List}
 use borrow.Author.Needs.{needs}
 use borrow.Author.Tests.{not-true, not-false}
-use Rattle.edit_map.specs.EditSlots.{editsOf}
-use Rattle.edit_map.proofs.EditCounted.{removed-fits}
+use Rattle.edit_order.specs.EditSlots.{editsOf, holding}
+use Rattle.edit_order.specs.EditOrder.{sorted}
+use Rattle.edit_order.specs.EditCount.{resultCount, capped}
+use Rattle.edit_order.proofs.EditCounted.{removed-fits}
 use Rattle.edit_map.proofs.EditSettling.{settle-misfit, settle-short, settle-records}
 use Rattle.edit_map.proofs.edit_map.settle.Statement.{statement}
 use Rattle.edit_map.proofs.edit_map.settle.Tie as tie
@@ -20,12 +24,15 @@ same-length c = search needs
 
 returns : tie.Need-returns
 returns c =
-    let a = c .before .before .before .before .before .args in
-    let e = settle-misfit (a .len) (a .pool) (a .slots) (editsOf (a .edits .now)) (sym (c .before .before .fits2 .ensures) ∙ not-true _ (c .before .if1 .taken)) in
-    (c .refused .ensures ∙ e, rw (← e))
+    let c₁ = c .before .before .before .before in
+    let a = c₁ .before .before .before .args in
+    let e = settle-misfit (a .len) (a .pool) (a .slots) (editsOf (a .edits .now)) (sym (c₁ .fits2 .ensures .0) ∙ not-true _ (c .before .if1 .taken)) in
+    (c .refused .ensures ∙ e, rw (← e) (c₁ .fits2 .ensures .1))
 
 count-requires : tie.Need-count-requires
-count-requires c κs = removed-fits _ _ _ (sym (c .before .before .fits2 .ensures) ∙ not-false _ (c .before .if1 .left))
+count-requires c κs =
+    let c₁ = c .before .before .before .before in
+    rw (c₁ .fits2 .ensures .1) (removed-fits _ _ _ (sym (c₁ .fits2 .ensures .0) ∙ not-false _ (c .before .if1 .left)))
 
 enum-told : tie.Need-enum-told
 enum-told c = search needs
@@ -46,10 +53,11 @@ returns-2 : tie.Need-returns-2
 returns-2 c =
     let c₁ = c .before .before .before in
     let c₂ = c₁ .before .before in
-    let c₃ = c₂ .before in
+    let c₃ = c₂ .before .before .before in
     let a = c₃ .before .before .before .args in
-    let e = settle-short (a .len) (a .pool) (a .slots) (editsOf (a .edits .now)) (sym (c₃ .fits2 .ensures) ∙ not-false _ (c₂ .if1 .left)) _ (c₁ .count .ensures) (c .before .enum-told .given .1) in
-    (c .refused2 .ensures ∙ e, rw (← e))
+    let n = c₁ .count .ensures ∙ ap (λ (l : List ℕ). capped (a .slots) (resultCount (a .len) (editsOf l))) (c₃ .fits2 .ensures .1) in
+    let e = settle-short (a .len) (a .pool) (a .slots) (editsOf (a .edits .now)) (sym (c₃ .fits2 .ensures .0) ∙ not-false _ (c₂ .if1 .left)) _ n (c .before .enum-told .given .1) in
+    (c .refused2 .ensures ∙ e, rw (← e) (c₃ .fits2 .ensures .1))
 
 same-length-3 : tie.Need-same-length-3
 same-length-3 c = search needs
@@ -59,11 +67,11 @@ returns-3 c =
     let c₁ = c .before .before .before .before .before in
     let c₂ = c₁ .before .before in
     let c₃ = c₂ .before .before in
-    let c₄ = c₃ .before in
-    let c₅ = c₄ .before .before .before in
-    let a = c₅ .args in
-    let e = settle-records (a .len) (a .pool) (a .slots) (editsOf (a .edits .now)) (sym (c₄ .fits2 .ensures) ∙ not-false _ (c₃ .if1 .left)) _ (c₂ .count .ensures) _ (c₁ .t .given .1) in
-    (e, rw (← e) (c .before .before .sort .ensures))
+    let c₄ = c₃ .before .before .before in
+    let a = c₄ .before .before .before .args in
+    let n = c₂ .count .ensures ∙ ap (λ (l : List ℕ). capped (a .slots) (resultCount (a .len) (editsOf l))) (c₄ .fits2 .ensures .1) in
+    let e = settle-records (a .len) (a .pool) (a .slots) (editsOf (a .edits .now)) (sym (c₄ .fits2 .ensures .0) ∙ not-false _ (c₃ .if1 .left)) _ n _ (c₁ .t .given .1) in
+    (e, rw (← e) (c .before .before .sort .ensures ∙ ap (λ (l : List ℕ). holding (sorted (editsOf l)) l) (c₄ .fits2 .ensures .1)))
 
 pub settle-spec : {M : Type 1} → statement M
 settle-spec =

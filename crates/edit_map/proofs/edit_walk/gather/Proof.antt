@@ -4,7 +4,7 @@ use Prim.Native.Nat.{_-_}
 use native.Mathlib.Omega.{arith}
 use borrow.Author.Needs.{needs}
 use native.Mathlib.Nat.{le-refl}
-use Rattle.edit_map.specs.EditSlots.{editsOf}
+use Rattle.edit_order.specs.EditSlots.{editsOf}
 use Rattle.edit_map.proofs.EditLeading.{Gathering, gather-on, gather-fits, gather-off, gather-end}
 use Rattle.edit_map.proofs.edit_walk.gather.Statement.{statement}
 use Rattle.edit_map.proofs.edit_walk.gather.Tie as tie

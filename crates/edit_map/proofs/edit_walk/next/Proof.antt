@@ -2,7 +2,7 @@
 -- Assumes nothing.
 use mathlib.Core.Path.{refl}
 use borrow.Author.Needs.{needs}
-use Rattle.edit_map.specs.EditSlots.{editsOf}
+use Rattle.edit_order.specs.EditSlots.{editsOf}
 use Rattle.edit_map.specs.EditCursor.{steps}
 use Rattle.edit_map.proofs.EditMoves.{Walking, next-on, next-less, next-list, next-pool, next-end}
 use Rattle.edit_map.proofs.edit_walk.next.Statement.{statement}

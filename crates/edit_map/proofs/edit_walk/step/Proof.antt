@@ -3,7 +3,7 @@
 use mathlib.Core.Path.{subst, refl}
 use borrow.Author.Needs.{needs}
 use Rattle.edit_map.specs.declared.edit_walk.Cursor.{Cursor}
-use Rattle.edit_map.specs.EditSlots.{editsOf}
+use Rattle.edit_order.specs.EditSlots.{editsOf}
 use Rattle.edit_map.specs.EditCursor.{Ready}
 use Rattle.edit_map.proofs.edit_walk.step.Statement.{statement}
 use Rattle.edit_map.proofs.edit_walk.step.Tie as tie

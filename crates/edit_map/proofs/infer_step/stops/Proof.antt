@@ -3,6 +3,7 @@
 use borrow.Author.Needs.{needs}
 use Rattle.edit_map.proofs.infer_step.stops.Statement.{statement}
 use Rattle.edit_map.proofs.infer_step.stops.Tie as tie
+use Rattle.edit_order.proofs.Bools.{either}
 
 pub stops-spec : {M : Type 1} → statement M
 stops-spec =

@@ -3,6 +3,7 @@
 use borrow.Author.Needs.{needs}
 use Rattle.edit_map.proofs.resolve_accept.delimiter_piece.Statement.{statement}
 use Rattle.edit_map.proofs.resolve_accept.delimiter_piece.Tie as tie
+use Rattle.edit_order.proofs.Bools.{either}
 
 pub delimiter-piece-spec : {M : Type 1} → statement M
 delimiter-piece-spec =

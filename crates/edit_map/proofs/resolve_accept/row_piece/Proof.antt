@@ -3,6 +3,7 @@
 use borrow.Author.Needs.{needs}
 use Rattle.edit_map.proofs.resolve_accept.row_piece.Statement.{statement}
 use Rattle.edit_map.proofs.resolve_accept.row_piece.Tie as tie
+use Rattle.edit_order.proofs.Bools.{either}
 
 pub row-piece-spec : {M : Type 1} → statement M
 row-piece-spec =

@@ -3,6 +3,7 @@
 use borrow.Author.Needs.{needs}
 use Rattle.edit_map.proofs.resolve_base.is_text_name.Statement.{statement}
 use Rattle.edit_map.proofs.resolve_base.is_text_name.Tie as tie
+use Rattle.edit_order.proofs.Bools.{either}
 
 pub is-text-name-spec : {M : Type 1} → statement M
 is-text-name-spec =

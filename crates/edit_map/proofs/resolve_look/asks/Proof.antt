@@ -3,6 +3,7 @@
 use borrow.Author.Needs.{needs}
 use Rattle.edit_map.proofs.resolve_look.asks.Statement.{statement}
 use Rattle.edit_map.proofs.resolve_look.asks.Tie as tie
+use Rattle.edit_order.proofs.Bools.{either}
 
 pub asks-spec : {M : Type 1} → statement M
 asks-spec =

@@ -5,6 +5,7 @@ use borrow.Author.Tests.{eq-eqb, ne-eqb}
 use mathlib.Core.Path.{sym, _∙_}
 use Rattle.edit_map.proofs.resolve_look.look_on.Statement.{statement}
 use Rattle.edit_map.proofs.resolve_look.look_on.Tie as tie
+use Rattle.edit_order.proofs.Bools.{either}
 
 pub look-on-spec : {M : Type 1} → statement M
 look-on-spec =

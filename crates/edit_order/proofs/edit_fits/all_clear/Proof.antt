@@ -1,0 +1,67 @@
+-- `edit_fits::all_clear` meets its contract: the edits so far are clear. The measure is the edits left.
+-- Assumes nothing.
+use borrow.Author.Needs.{needs}
+use Prim.Native.Nat.{_-_}
+use mathlib.Core.Path.{_∙_, sym}
+use native.Mathlib.Omega.{arith}
+use borrow.Author.Tests.{not-true, not-false}
+use Rattle.edit_order.specs.EditSlots.{editsOf}
+use Rattle.edit_order.specs.Edits.{clear}
+use Rattle.edit_order.proofs.EditTesting.{Passing, pass-start, pass-on, pass-off, pass-end}
+use Rattle.edit_order.proofs.edit_fits.all_clear.Statement.{statement}
+use Rattle.edit_order.proofs.edit_fits.all_clear.Tie as tie
+
+abbrev Inv-loop : tie.InvT-loop
+Inv-loop edits p n k i₀ i = Passing (clear p n) (editsOf edits) i
+
+abbrev μ-loop : tie.MeasureT-loop
+μ-loop edits p n k i₀ i = k - i
+
+number-requires : tie.Need-number-requires Inv-loop μ-loop
+number-requires c κs = search needs
+
+loop-holds : tie.Need-loop-holds Inv-loop μ-loop
+loop-holds c = pass-start _ _
+
+get-requires : tie.Need-get-requires Inv-loop μ-loop
+get-requires c κs = omega (arith, c .before .before .number .ensures)
+
+clear-of-requires : tie.Need-clear-of-requires Inv-loop μ-loop
+clear-of-requires c κs = c .before .before .before .before .before .pre
+
+returns : tie.Need-returns Inv-loop μ-loop
+returns c =
+    let c₁ = c .before .before .before .before in
+    let c₂ = c₁ .before in
+    sym (pass-off _ _ _ (c₁ .loop .inv) (omega (arith, c₂ .number .ensures)) _ (c .before .before .get .ensures) (sym (c .before .clear-of .ensures) ∙ not-true _ (c .if1 .taken)))
+
+add-i : tie.Need-add-i Inv-loop μ-loop
+add-i c = omega arith
+
+loop-less : tie.Need-loop-less Inv-loop μ-loop
+loop-less c = omega arith
+
+loop-again : tie.Need-loop-again Inv-loop μ-loop
+loop-again c =
+    let c₁ = c .before .before .before .before in
+    let c₂ = c₁ .before in
+    pass-on _ _ _ (c₁ .loop .inv) (omega (arith, c₂ .number .ensures)) _ (c .before .before .get .ensures) (sym (c .before .clear-of .ensures) ∙ not-false _ (c .if1 .left))
+
+returns-2 : tie.Need-returns-2 Inv-loop μ-loop
+returns-2 c = sym (pass-end _ _ _ (c .before .loop .inv) (omega (arith, c .before .before .number .ensures)))
+
+pub all-clear-spec : {M : Type 1} → statement M
+all-clear-spec =
+    tie.close
+    (tie.spec
+    Inv-loop
+    μ-loop
+    number-requires
+    loop-holds
+    get-requires
+    clear-of-requires
+    returns
+    add-i
+    loop-less
+    loop-again
+    returns-2)

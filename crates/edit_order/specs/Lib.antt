@@ -1,0 +1,7 @@
+pub mod EditSlots
+pub mod Edits
+pub mod EditOrder
+pub mod EditReach
+pub mod EditCount
+pub mod EditSort
+pub mod EditMarks
