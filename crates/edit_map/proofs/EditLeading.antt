@@ -12,7 +12,7 @@ use borrow.Author.Tests.{eq-eqb, ne-eqb, eqb-true, eqb-false}
 use lib.ListN.{length, getD, take, drop, drop-of-length-le}
 use lib.Seq.{drop-cons}
 use Rattle.edit_order.specs.declared.edit_slots.Edit.{Edit}
-use Rattle.edit_order.specs.EditSlots.{noEdit}
+use Rattle.edit_order.specs.EditFives.{noEdit}
 use Rattle.edit_order.specs.Edits.{here, removed}
 use Rattle.edit_order.specs.EditOrder.{Rises}
 use Rattle.edit_map.specs.EditCursor.{leading}

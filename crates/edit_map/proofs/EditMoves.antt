@@ -19,7 +19,7 @@ use Rattle.edit_map.specs.declared.edit_walk.Cursor.the-variants.{Betwee
 use Rattle.edit_map.specs.declared.edit_walk.Stepped.{Stepped}
 use Rattle.edit_map.specs.declared.edit_walk.Stepped.the-variants as step
 use Rattle.edit_map.specs.declared.edit_walk.Origin.the-variants as origin
-use Rattle.edit_order.specs.EditSlots.{noEdit}
+use Rattle.edit_order.specs.EditFives.{noEdit}
 use Rattle.edit_order.specs.Edits.{here, removed, addition}
 use Rattle.edit_order.specs.EditOrder.{Rises}
 use Rattle.tokenizer.specs.Events.{blankEvent}

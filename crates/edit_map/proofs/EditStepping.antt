@@ -13,7 +13,7 @@ use lib.ListN.{length, getD, take, drop, length-drop, length-take, drop-of-lengt
 use lib.Seq.{drop-cons, take-suc, getD-take, getD-drop}
 use Rattle.tokenizer.specs.declared.event.Event.{Event}
 use Rattle.edit_order.specs.declared.edit_slots.Edit.{Edit}
-use Rattle.edit_order.specs.EditSlots.{noEdit}
+use Rattle.edit_order.specs.EditFives.{noEdit}
 use Rattle.edit_order.specs.Edits.{here, removed, added, addition, edited}
 use Rattle.edit_order.specs.EditOrder.{Rises}
 use Rattle.tokenizer.specs.Events.{blankEvent}

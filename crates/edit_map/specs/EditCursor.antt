@@ -16,7 +16,7 @@ use Rattle.edit_map.specs.declared.edit_walk.Stepped.the-variants as ste
 use Rattle.edit_map.specs.declared.edit_walk.Origin.{Origin}
 use Rattle.edit_map.specs.declared.edit_walk.Origin.the-variants as origin
 use Rattle.edit_map.specs.declared.edit_walk.Source.{Source}
-use Rattle.edit_order.specs.EditSlots.{noEdit}
+use Rattle.edit_order.specs.EditFives.{noEdit}
 use Rattle.edit_order.specs.Edits.{addition, edited, editsFit}
 use Rattle.edit_order.specs.EditOrder.{Rises}
 

@@ -11,7 +11,7 @@ use lib.Dec.{eqb, leb}
 use borrow.Author.Tests.{eqb-true, ne-eqb, leb-true}
 use lib.ListN.{length, getD, drop}
 use Rattle.edit_order.specs.declared.edit_slots.Edit.{Edit}
-use Rattle.edit_order.specs.EditSlots.{noEdit}
+use Rattle.edit_order.specs.EditFives.{noEdit}
 use Rattle.edit_order.specs.Edits.{here, removed, removedAt, every, dropped, stretch, inPool, fine, editsFit}
 use Rattle.edit_order.proofs.Bools.{both-true, and-false}
 

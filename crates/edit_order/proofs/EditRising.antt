@@ -14,7 +14,7 @@ use Rattle.edit_order.specs.declared.edit_fits.Reached.{Reached}
 use Rattle.edit_order.specs.declared.edit_fits.Reached.the-variants.{To, Refused}
 use Rattle.edit_order.specs.Edits.{here, removed, removedAt, every, clear, inPool, stretch, dropped, fine, editsFit}
 use Rattle.edit_order.specs.EditOrder.{Rises}
-use Rattle.edit_order.specs.EditSlots.{noEdit}
+use Rattle.edit_order.specs.EditFives.{noEdit}
 use Rattle.edit_order.specs.EditReach.{within, reached}
 use Rattle.edit_order.proofs.EditOrder.{here-below, rises-from}
 use Rattle.edit_order.proofs.EditSorted.{every-ext}
@@ -356,12 +356,16 @@ module _ (len n p stop : ℕ) (e : Edit) where
 pub record Climbing (es : List Edit) (i p : ℕ) : Type 0 where
   pub low : i ≤ length es
   pub so : Rises p (drop i es) → Rises 0 es
+  pub back : Rises 0 es → Rises p (drop i es)
 
 pub climb-end : (es : List Edit) (i p : ℕ) → Climbing es i p → length es ≤ i → Rises 0 es
 climb-end es i p s h = s .so (rw (drop-of-length-le es {i = i} h) tt)
 
 pub climb-on : (es : List Edit) (i p : ℕ) → Climbing es i p → (e : Edit) → e ≡ getD es i noEdit → i < length es → p ≤ e .at → Climbing es (i + 1) (e .at)
-climb-on es i p s e q h l = record { low = omega arith; so = λ r. s .so (rw (drops es i h e q) (l, r)) }
+climb-on es i p s e q h l = record { low = omega arith; so = λ r. s .so (rw (drops es i h e q) (l, r)); back = λ r. rw (drops es i h e q) at (s .back r) .1 }
+
+pub climb-off : (es : List Edit) (i p : ℕ) → Climbing es i p → (e : Edit) → e ≡ getD es i noEdit → i < length es → e .at < p → Rises 0 es → ⊥
+climb-off es i p s e q h l r = let b : Rises p (e ∷ drop (i + 1) es) = rw (drops es i h e q) at (s .back r) in omega (arith, b .0)
 
 pub record Going (len n : ℕ) (es : List Edit) (i : ℕ) (r : Reached) : Type 0 where
   pub low : i ≤ length es

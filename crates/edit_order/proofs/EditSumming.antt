@@ -12,7 +12,7 @@ use lib.ListN.{length, getD, drop, drop-of-length-le}
 use lib.Seq.{drop-cons}
 use Rattle.edit_order.specs.declared.edit_slots.Edit.{Edit}
 use Rattle.edit_order.specs.declared.edit_count.Total.the-variants.{Is, Over}
-use Rattle.edit_order.specs.EditSlots.{noEdit}
+use Rattle.edit_order.specs.EditFives.{noEdit}
 use Rattle.edit_order.specs.Edits.{here, removed}
 use Rattle.edit_order.specs.EditCount.{adding, capped}
 

@@ -11,7 +11,7 @@ use borrow.Author.Tests.{leb-true, leb-false, le-leb, lt-leb, eq-eqb, ne-eqb, lt
 use lib.ListN.{length, getD, drop, drop-of-length-le}
 use lib.Seq.{drop-cons}
 use Rattle.edit_order.specs.declared.edit_slots.Edit.{Edit}
-use Rattle.edit_order.specs.EditSlots.{noEdit}
+use Rattle.edit_order.specs.EditFives.{noEdit}
 use Rattle.edit_order.specs.Edits.{every, dropped, clear, inPool, removedAt, fine}
 use Rattle.edit_order.specs.EditCount.{capped}
 use Rattle.edit_order.specs.declared.edit_count.Total.{Total}

@@ -1,4 +1,5 @@
 pub mod EditSlots
+pub mod EditFives
 pub mod Edits
 pub mod EditOrder
 pub mod EditReach

@@ -2,7 +2,8 @@
 ghost use mathlib.Core.Path.{_≡_};
 ghost use Prim.Native.Nat.{_<_, _+_};
 ghost use lib.ListN.{length, getD, set};
-ghost use Rattle.edit_order.specs.EditSlots.{editsOf, holding, noEdit, fives, store};
+ghost use Rattle.edit_order.specs.EditSlots.{editsOf, holding};
+ghost use Rattle.edit_order.specs.EditFives.{noEdit, fives, store};
 
 // An edit: a position, a number removed, a stretch of the pool, and whether it goes before earlier additions (0 is no).
 pub struct Edit {

@@ -6,7 +6,7 @@ use borrow.Author.Needs.{needs}
 use borrow.Author.Tests.{not-true, not-false}
 use Rattle.edit_order.specs.EditSlots.{editsOf}
 use Rattle.edit_order.specs.Edits.{editsFit}
-use Rattle.edit_order.proofs.EditMarks.{bare-none, lean-small, fat-misfit}
+use Rattle.edit_order.proofs.EditMarks.{unmark-none, lean-small, fat-misfit}
 use Rattle.edit_order.proofs.edit_fits.fits.Statement.{statement}
 use Rattle.edit_order.proofs.edit_fits.fits.Tie as tie
 
@@ -14,13 +14,13 @@ rising-requires : tie.Need-rising-requires
 rising-requires c κs = search needs
 
 in-order-requires : tie.Need-in-order-requires
-in-order-requires c κs = c .before .before .rising .ensures (c .before .if1 .taken)
+in-order-requires c κs = c .before .before .rising .ensures .0 (c .before .if1 .taken)
 
 same-length : tie.Need-same-length
 same-length c = search needs
 
 returns : tie.Need-returns
-returns c = (c .in-order .ensures ∙ ap (editsFit _ _) (bare-none _), refl)
+returns c = (c .in-order .ensures ∙ ap (editsFit _ _) (unmark-none _), refl)
 
 any-order-requires : tie.Need-any-order-requires
 any-order-requires c κs = search needs

@@ -8,13 +8,13 @@ use native.Mathlib.Omega.{arith}
 use Rattle.edit_order.specs.declared.edit_fits.Reached.the-variants.{To}
 use Rattle.edit_order.specs.EditSlots.{editsOf}
 use Rattle.edit_order.proofs.EditRising.{Going, going-on, going-end, going-refused, rising-fits}
-use Rattle.edit_order.specs.EditMarks.{bare}
-use Rattle.edit_order.proofs.EditMarks.{bare-rises, bare-length, bare-it}
+use Rattle.edit_order.specs.EditMarks.{unmarkIf}
+use Rattle.edit_order.proofs.EditMarks.{unmark-rises, unmark-length, unmark-it}
 use Rattle.edit_order.proofs.edit_fits.in_order.Statement.{statement}
 use Rattle.edit_order.proofs.edit_fits.in_order.Tie as tie
 
 abbrev Inv-loop : tie.InvT-loop
-Inv-loop edits marked len pool n i₀ p₀ end₀ i p end = Going len pool (map (bare marked) (editsOf edits)) i (To p end)
+Inv-loop edits marked len pool n i₀ p₀ end₀ i p end = Going len pool (map (unmarkIf marked) (editsOf edits)) i (To p end)
 
 abbrev μ-loop : tie.MeasureT-loop
 μ-loop edits marked len pool n i₀ p₀ end₀ i p end = n - i
@@ -23,13 +23,13 @@ number-requires : tie.Need-number-requires Inv-loop μ-loop
 number-requires c κs = search needs
 
 loop-holds : tie.Need-loop-holds Inv-loop μ-loop
-loop-holds c = record { low = omega arith; same = rising-fits _ _ _ (bare-rises (c .before .before .args .marked) 0 (editsOf (c .before .before .args .edits .now)) (c .before .before .pre)) }
+loop-holds c = record { low = omega arith; same = rising-fits _ _ _ (unmark-rises (c .before .before .args .marked) 0 (editsOf (c .before .before .args .edits .now)) (c .before .before .pre)) }
 
 get-requires : tie.Need-get-requires Inv-loop μ-loop
 get-requires c κs = omega (arith, c .before .before .number .ensures)
 
-bare-requires : tie.Need-bare-requires Inv-loop μ-loop
-bare-requires c κs = search needs
+unmark-if-requires : tie.Need-unmark-if-requires Inv-loop μ-loop
+unmark-if-requires c κs = search needs
 
 reach-requires : tie.Need-reach-requires Inv-loop μ-loop
 reach-requires c κs = search needs
@@ -46,8 +46,8 @@ returns c =
     let es = editsOf (c₃ .before .before .args .edits .now) in
     sym
     (going-refused _ _ _ _ _
-    (going-on _ _ _ _ _ _ (c₂ .loop .inv) _ (bare-it b es (c₂ .loop .i) _ _ (c₁ .get .ensures) (c .before .before .before .bare .ensures))
-    (omega (arith, c₃ .number .ensures, bare-length b es)) _ (c .before .before .reach .ensures)) (c .enum-told .given .1))
+    (going-on _ _ _ _ _ _ (c₂ .loop .inv) _ (unmark-it b es (c₂ .loop .i) _ _ (c₁ .get .ensures) (c .before .before .before .unmark-if .ensures))
+    (omega (arith, c₃ .number .ensures, unmark-length b es)) _ (c .before .before .reach .ensures)) (c .enum-told .given .1))
 
 enum-known-r : tie.Need-enum-known-r Inv-loop μ-loop
 enum-known-r c = search needs
@@ -66,13 +66,13 @@ loop-again c =
     let c₄ = c₃ .before in
     let b = c₄ .before .before .args .marked in
     let es = editsOf (c₄ .before .before .args .edits .now) in
-    going-on _ _ _ _ _ _ (c₃ .loop .inv) _ (bare-it b es (c₃ .loop .i) _ _ (c₂ .get .ensures) (c₁ .before .bare .ensures))
-    (omega (arith, c₄ .number .ensures, bare-length b es)) _ (sym (c .before .r .given .1) ∙ c₁ .reach .ensures)
+    going-on _ _ _ _ _ _ (c₃ .loop .inv) _ (unmark-it b es (c₃ .loop .i) _ _ (c₂ .get .ensures) (c₁ .before .unmark-if .ensures))
+    (omega (arith, c₄ .number .ensures, unmark-length b es)) _ (sym (c .before .r .given .1) ∙ c₁ .reach .ensures)
 
 returns-2 : tie.Need-returns-2 Inv-loop μ-loop
 returns-2 c =
     let c₁ = c .before .before in
-    sym (going-end _ _ _ _ _ _ (c .before .loop .inv) (omega (arith, c₁ .number .ensures, bare-length (c₁ .before .before .args .marked) (editsOf (c₁ .before .before .args .edits .now)))))
+    sym (going-end _ _ _ _ _ _ (c .before .loop .inv) (omega (arith, c₁ .number .ensures, unmark-length (c₁ .before .before .args .marked) (editsOf (c₁ .before .before .args .edits .now)))))
 
 pub in-order-spec : {M : Type 1} → statement M
 in-order-spec =
@@ -83,7 +83,7 @@ in-order-spec =
     number-requires
     loop-holds
     get-requires
-    bare-requires
+    unmark-if-requires
     reach-requires
     enum-told
     returns
