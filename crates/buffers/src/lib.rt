@@ -1,4 +1,6 @@
 // Calls of `head` and `row` for programs: with slots of a local array, of which the first n are lent.
+#![tactic(auto)]
+
 ghost use Rattle.std.specs.Prelude.{◌≡◌, ◌||◌, length};
 ghost use Rattle.tokenizer.specs.Bytes.{kind_of};
 ghost use Rattle.gfm_table.specs.Calls.{head_of, row_of};
@@ -10,28 +12,28 @@ use tokenizer::event::Event;
 use tokenizer::slots::at_or_blank;
 
 // A head's answer, and an array whose first slots were lent.
-#[derive(Drop)]
+#[derive(Clone, Copy)]
 pub struct HeadSmall {
     pub answer: Head,
     pub raw: [Event; 256],
 }
 
 // A row's answer, and an array whose first slots were lent.
-#[derive(Drop)]
+#[derive(Clone, Copy)]
 pub struct RowSmall {
     pub answer: Row,
     pub raw: [Event; 256],
 }
 
 // A head's answer, and one of the slots that were lent.
-#[derive(Drop)]
+#[derive(Clone, Copy)]
 pub struct HeadLong {
     pub answer: Head,
     pub event: Event,
 }
 
 // A row's answer, and one of the slots that were lent.
-#[derive(Drop)]
+#[derive(Clone, Copy)]
 pub struct RowLong {
     pub answer: Row,
     pub event: Event,

@@ -10,7 +10,7 @@ use tokenizer::event::Name;
 use tokenizer::moves::kind_at;
 
 // Where a run of bytes ends, and the column there.
-#[derive(Drop)]
+#[derive(Clone, Copy)]
 pub struct Stop {
     pub at: usize,
     pub column: usize,

@@ -16,7 +16,7 @@ use tokenizer::event::{Event, Name, Point};
 use tokenizer::slots::{past_if, slot_if};
 
 // Inside a row's cell: the place, the column there, the next slot, whether a piece other than whitespace came, and whether the cell waits for a mark.
-#[derive(Drop)]
+#[derive(Clone, Copy)]
 pub struct Within {
     pub at: u32,
     pub column: u32,
@@ -26,7 +26,7 @@ pub struct Within {
 }
 
 // A step: where it starts, its first slot, its piece with the link, whether a cell opens, whether a text or value is entered and left, where it ends, and what holds then.
-#[derive(Drop)]
+#[derive(Clone, Copy)]
 pub struct Step {
     pub at: u32,
     pub column: u32,
@@ -43,7 +43,7 @@ pub struct Step {
 }
 
 // The slots of a step's events, those past all slots where there is none, and the next slot.
-#[derive(Drop)]
+#[derive(Clone, Copy)]
 pub struct Slots {
     pub left: usize,
     pub entered: usize,

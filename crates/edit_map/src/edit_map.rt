@@ -14,14 +14,14 @@ use tokenizer::event::Event;
 use tokenizer::slots;
 
 // Refused by the question with this number, or the number of result events.
-#[derive(Drop)]
+#[derive(Clone, Copy)]
 pub enum Edited {
     Refused(u8),
     Accepted(usize),
 }
 
 // The answer, and the cursor before the first result record.
-#[derive(Drop)]
+#[derive(Clone, Copy)]
 pub struct Settled {
     pub answer: Edited,
     pub start: Cursor,

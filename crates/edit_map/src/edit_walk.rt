@@ -8,14 +8,14 @@ use edit_order::edit_slots;
 use tokenizer::event::Event;
 
 // Edits of one position, side by side: how many, and what they remove together.
-#[derive(Drop)]
+#[derive(Clone, Copy)]
 pub struct Group {
     pub size: usize,
     pub removes: usize,
 }
 
 // Where the result is taken from next.
-#[derive(Drop)]
+#[derive(Clone, Copy)]
 pub enum Cursor {
     // At, edit: position `at` of the list is next; the edits from number `edit` on are to come.
     Between(usize, usize),
@@ -29,7 +29,7 @@ pub enum Cursor {
 }
 
 // A step of the cursor: a record of the list, a record of the pool, none, or the end.
-#[derive(Drop)]
+#[derive(Clone, Copy)]
 pub enum Stepped {
     List(usize, Cursor),
     Pool(usize, Cursor),
@@ -38,7 +38,7 @@ pub enum Stepped {
 }
 
 // Whose record is next: the list's, the pool's, or none.
-#[derive(Drop)]
+#[derive(Clone, Copy)]
 pub enum Origin {
     List,
     Pool,
@@ -46,7 +46,7 @@ pub enum Origin {
 }
 
 // The next record of the result, by its index, and the cursor behind it.
-#[derive(Drop)]
+#[derive(Clone, Copy)]
 pub struct Source {
     pub of: Origin,
     pub at: usize,

@@ -11,7 +11,7 @@ use crate::resolve_base::both;
 use tokenizer::event::Event;
 
 // The question that got a "no", or the number of alignments.
-#[derive(Drop)]
+#[derive(Clone, Copy)]
 pub enum Aligned {
     Refused(u8),
     Accepted(usize),

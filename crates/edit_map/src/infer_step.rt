@@ -10,7 +10,7 @@ use crate::resolve_base::{both, either, on_to, plus};
 use tokenizer::event::{Event, Name};
 
 // How far a table is read for its alignments.
-#[derive(Drop)]
+#[derive(Clone, Copy)]
 pub enum Stage {
     Opening,
     Seeking,
@@ -22,7 +22,7 @@ pub enum Stage {
 }
 
 // The stage; whether a marker stands in front of the value; whether the record before is named as a marker; the alignment that the last record gave, or 0; how many were given; the place of the next record.
-#[derive(Drop)]
+#[derive(Clone, Copy)]
 pub struct Aligning {
     pub stage: Stage,
     pub front: bool,

@@ -1,4 +1,5 @@
 // The edit map, the resolver and the alignments.
+#![tactic(auto)]
 
 pub mod cell_rows;
 pub mod cell_spans;

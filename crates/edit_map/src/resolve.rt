@@ -15,14 +15,14 @@ use tokenizer::event::Event;
 use tokenizer::slots::{at_or_blank, clear_from};
 
 // The question that got a "no", or the number of result events.
-#[derive(Drop)]
+#[derive(Clone, Copy)]
 pub enum Resolved {
     Refused(u8),
     Accepted(usize),
 }
 
 // How many slots stay as they are, and the answer.
-#[derive(Drop)]
+#[derive(Clone, Copy)]
 pub struct Judged {
     pub keep: usize,
     pub answer: Resolved,

@@ -8,7 +8,7 @@ use crate::resolve_base::{Part, both, either};
 use tokenizer::event::{Event, Name};
 
 // How far a list of raw tables is read.
-#[derive(Drop)]
+#[derive(Clone, Copy)]
 pub enum Place {
     Start,
     Entry,
@@ -21,7 +21,7 @@ pub enum Place {
 }
 
 // The place in a table, the row that is read or comes next, and the name of what is to be left next, or 0.
-#[derive(Drop)]
+#[derive(Clone, Copy)]
 pub struct Reading {
     pub place: Place,
     pub part: Part,

@@ -6,7 +6,7 @@ ghost use Rattle.edit_map.specs.Base.{plus_of, is_row_name, is_text_name, on_to,
 use tokenizer::event::{Event, Name, Point};
 
 // The kind of row that is read.
-#[derive(Drop)]
+#[derive(Clone, Copy)]
 pub enum Part {
     Header,
     Delimiter,

@@ -8,7 +8,7 @@ use crate::resolve_turn::{Mode, Phase};
 use tokenizer::event::{Event, Name};
 
 // What a look ahead found behind a piece; a brief one ends where something solid is found.
-#[derive(Drop)]
+#[derive(Clone, Copy)]
 pub struct Look {
     pub on: bool,
     pub count: usize,

@@ -9,7 +9,7 @@ use crate::resolve_turn::{Mode, Phase, is_out, plainly, turn_of};
 use tokenizer::event::Event;
 
 // Where the stream stands in the list, and how many records it gave.
-#[derive(Drop)]
+#[derive(Clone, Copy)]
 pub struct Cursor {
     pub mode: Mode,
     pub at: usize,
@@ -17,7 +17,7 @@ pub struct Cursor {
 }
 
 // One record, the cursor after it, and 1, or a blank one and 0 past the last.
-#[derive(Drop)]
+#[derive(Clone, Copy)]
 pub struct Stepped {
     pub event: Event,
     pub next: Cursor,

@@ -8,7 +8,7 @@ use crate::resolve_base::{Part, enter_at, is_row_name, is_text_name, leave_at, l
 use tokenizer::event::{Event, Name};
 
 // Where the stream of result records stands.
-#[derive(Drop)]
+#[derive(Clone, Copy)]
 pub enum Phase {
     Out,
     Head,
@@ -29,7 +29,7 @@ pub enum Phase {
 }
 
 // A row's memory: a piece other than whitespace was seen; the cell still waits for its value; records of the value that are left to copy.
-#[derive(Drop)]
+#[derive(Clone, Copy)]
 pub struct Mode {
     pub phase: Phase,
     pub part: Part,
@@ -39,7 +39,7 @@ pub struct Mode {
 }
 
 // One record, the mode after it, and how many records of the list are passed.
-#[derive(Drop)]
+#[derive(Clone, Copy)]
 pub struct Turn {
     pub event: Event,
     pub mode: Mode,

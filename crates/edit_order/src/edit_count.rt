@@ -7,7 +7,7 @@ ghost use Rattle.edit_order.specs.EditCount.{capped, result_count};
 use crate::edit_slots;
 
 // A sum, or that it is more than its limit.
-#[derive(Drop)]
+#[derive(Clone, Copy)]
 pub enum Total {
     Is(usize),
     Over,

@@ -4,7 +4,7 @@ ghost use Rattle.edit_order.specs.EditSlots.{edits_of, holding};
 ghost use Rattle.edit_order.specs.EditFives.{no_edit, fives, store};
 
 // An edit: a position, a number removed, a stretch of the pool, and whether it goes before earlier additions (0 is no).
-#[derive(Drop)]
+#[derive(Clone, Copy)]
 pub struct Edit {
     pub at: usize,
     pub removes: usize,

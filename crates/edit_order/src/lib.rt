@@ -1,4 +1,5 @@
 // The edits in their slots, their order, and questions 11 and 12.
+#![tactic(auto)]
 
 pub mod edit_count;
 pub mod edit_fits;

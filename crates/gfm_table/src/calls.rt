@@ -13,7 +13,7 @@ use tokenizer::event::Point;
 use tokenizer::lines::{is_blank, line_number, starts_line};
 
 // A head is refused by a number, or accepted with the number of its events, the offset where its delimiter row ends, and its cells.
-#[derive(Drop)]
+#[derive(Clone, Copy)]
 pub enum Head {
     Refused(u8),
     Accepted {
@@ -24,20 +24,20 @@ pub enum Head {
 }
 
 // A row is refused by a number, or accepted with the number of its events and the offset where it ends.
-#[derive(Drop)]
+#[derive(Clone, Copy)]
 pub enum Row {
     Refused(u8),
     Accepted { events: usize, end: usize },
 }
 
 // The answer, and where the events come from.
-#[derive(Drop)]
+#[derive(Clone, Copy)]
 pub struct HeadPlan {
     pub answer: Head,
     pub cursor: Cursor,
 }
 
-#[derive(Drop)]
+#[derive(Clone, Copy)]
 pub struct RowPlan {
     pub answer: Row,
     pub cursor: Cursor,

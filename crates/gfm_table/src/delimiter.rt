@@ -13,7 +13,7 @@ use tokenizer::moves::{ahead, kind_at, over, run_end, space_end};
 use tokenizer::partial_space_or_tab::space_ends;
 
 // What stands between two dividers: nothing but whitespace, a value, or something else. The point is the end of the stretch.
-#[derive(Drop)]
+#[derive(Clone, Copy)]
 pub enum Cell {
     Empty(Point),
     Value(Point),
@@ -21,7 +21,7 @@ pub enum Cell {
 }
 
 // The values of a delimiter row, with the end of the line.
-#[derive(Drop)]
+#[derive(Clone, Copy)]
 pub enum Values {
     Count(u32, Point),
     Bad,

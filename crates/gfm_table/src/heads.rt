@@ -10,7 +10,7 @@ use tokenizer::event::Point;
 use tokenizer::lines::end_at;
 
 // A head: its cells, the pieces of its line, where its delimiter row starts, and where that ends.
-#[derive(Drop)]
+#[derive(Clone, Copy)]
 pub struct Opened {
     pub cells: u32,
     pub pieces: u32,
@@ -19,7 +19,7 @@ pub struct Opened {
 }
 
 // The number of the first question answered no, or a head.
-#[derive(Drop)]
+#[derive(Clone, Copy)]
 pub enum Answer {
     Refused(u8),
     Accepted(Opened),

@@ -1,4 +1,6 @@
 // The row machine of GFM tables: head lines, delimiter rows and body rows.
+#![tactic(auto)]
+
 ghost use Rattle.std.specs.Prelude.{◌≡◌, ◌||◌, length};
 ghost use Rattle.tokenizer.specs.Bytes.{kind_of};
 ghost use Rattle.gfm_table.specs.Calls.{head_of, head_slots, row_of, row_slots};

@@ -43,7 +43,7 @@ pub fn text_end(s: &[u8], kinds: &[u8], at: usize) -> usize
 }
 
 // A head line: its cells, and its solid pieces, where the first counts double unless it is a divider.
-#[derive(Drop)]
+#[derive(Clone, Copy)]
 pub struct HeadRow {
     pub size: u32,
     pub size_b: u32,

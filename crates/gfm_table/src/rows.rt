@@ -16,7 +16,7 @@ use tokenizer::moves::kind_at;
 use tokenizer::slots::put;
 
 // The next piece of a row: its name, 0 at the row's end, where it ends, and the column there.
-#[derive(Drop)]
+#[derive(Clone, Copy)]
 pub struct Placed {
     pub name: u8,
     pub end: u32,
@@ -108,7 +108,7 @@ pub fn marks_at(s: &[u8], kinds: &[u8], at: u32, column: u32) -> Placed
 }
 
 // Where the writing of a row's pieces stands: the place, the column there, and the slot of the next event.
-#[derive(Drop)]
+#[derive(Clone, Copy)]
 pub struct Reached {
     pub at: u32,
     pub column: u32,

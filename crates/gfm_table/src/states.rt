@@ -11,7 +11,7 @@ use tokenizer::event::{Name, Point};
 use tokenizer::moves::{ahead, kind_at, over, space_end};
 
 // Where a row is read: the point reached, the last piece, how many pieces, and the head's counters.
-#[derive(Drop)]
+#[derive(Clone, Copy)]
 pub struct Scan {
     pub at: Point,
     pub from: Point,
@@ -23,7 +23,7 @@ pub struct Scan {
 }
 
 // A row is read to its end, or paused between two pieces.
-#[derive(Drop)]
+#[derive(Clone, Copy)]
 pub enum Step {
     Paused(Scan),
     Ended(Scan),

@@ -12,7 +12,7 @@ use tokenizer::lines::end_at;
 use tokenizer::moves::{ahead, over, space_end};
 
 // Which line of a table is read.
-#[derive(Drop)]
+#[derive(Clone, Copy)]
 pub enum Part {
     Head,
     Delimiter,
@@ -20,7 +20,7 @@ pub enum Part {
 }
 
 // The next piece of a row: its name and its end, or none.
-#[derive(Drop)]
+#[derive(Clone, Copy)]
 pub enum Pieced {
     To(u8, Point),
     Nothing,
@@ -28,7 +28,7 @@ pub enum Pieced {
 
 // Before a head, before a row, between two pieces, inside one that ends at the point, at the end of a row, or inside the line end before
 // a row. At the end of a body row nothing more comes.
-#[derive(Drop)]
+#[derive(Clone, Copy)]
 pub enum Cursor {
     Begin(Point),
     Enter(Part, Point),
@@ -38,7 +38,7 @@ pub enum Cursor {
     Broken(Part, Point),
 }
 
-#[derive(Drop)]
+#[derive(Clone, Copy)]
 pub struct Stepped {
     pub event: Event,
     pub next: Cursor,

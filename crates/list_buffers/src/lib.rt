@@ -1,4 +1,6 @@
 // Calls of `resolve`, `edit` and `align` for programs: with arrays, of which the first are lent.
+#![tactic(auto)]
+
 ghost use Rattle.std.specs.Prelude.{◌≡◌, length};
 ghost use Rattle.buffers.specs.Buffers.{least_of};
 ghost use Rattle.edit_map.specs.Answers.{resolve_answer, resolve_slots, align_answer, align_slots};
@@ -12,21 +14,21 @@ use edit_map::resolve::{Resolved, resolve};
 use tokenizer::event::Event;
 
 // A resolver's answer, and an array whose first slots were lent.
-#[derive(Drop)]
+#[derive(Clone, Copy)]
 pub struct ResolveSmall {
     pub answer: Resolved,
     pub results: [Event; 256],
 }
 
 // The answer about alignments, and an array whose first slots were lent.
-#[derive(Drop)]
+#[derive(Clone, Copy)]
 pub struct AlignSmall {
     pub answer: Aligned,
     pub alignments: [u8; 256],
 }
 
 // An edit's answer, and two arrays whose first slots were lent.
-#[derive(Drop)]
+#[derive(Clone, Copy)]
 pub struct EditSmall {
     pub answer: Edited,
     pub edits: [usize; 256],

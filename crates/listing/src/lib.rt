@@ -1,4 +1,6 @@
 // Lists the tables of a sheet on standard input, at most 4,096 bytes, and where the text of each cell stands.
+#![tactic(auto)]
+
 ghost use Rattle.std.specs.Prelude.{◌≤◌};
 
 use protocol::print;
@@ -8,7 +10,7 @@ use tokenizer::event::{Event, Name};
 use tokenizer::kinds::builtin;
 
 // What the walk over the events has seen: how many tables, how many alignments, the letter of the rows, and the cell's line and text.
-#[derive(Drop)]
+#[derive(Clone, Copy)]
 struct Seen {
     tables: usize,
     aligned: usize,

@@ -1,4 +1,6 @@
 // The six calls by their C names. A slice is a pointer and a length, in the place of the parameter; an array is a pointer.
+#![tactic(auto)]
+
 ghost use Rattle.std.specs.Prelude.{◌≡◌, ◌||◌, length};
 ghost use Rattle.tokenizer.specs.Bytes.{kind_of};
 ghost use Rattle.gfm_table.specs.Calls.{head_of, head_slots, row_of, row_slots};

@@ -1,4 +1,5 @@
 // The line protocol of the kept answers (harness/README.md): words of a request are read, and an answer is written to standard output.
+#![tactic(auto)]
 
 pub mod input;
 pub mod lists;

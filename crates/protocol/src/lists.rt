@@ -5,7 +5,7 @@ use crate::words::{ReadNumber, digits, number, unreadable};
 use tokenizer::event::Event;
 
 // Whether an event was readable, the event, and where the next word starts.
-#[derive(Drop)]
+#[derive(Clone, Copy)]
 pub struct ReadEvent {
     pub good: bool,
     pub value: Event,
@@ -13,7 +13,7 @@ pub struct ReadEvent {
 }
 
 // The events that were read, at the front of an array, how many, and where the next word starts.
-#[derive(Drop)]
+#[derive(Clone, Copy)]
 pub struct ReadEvents {
     pub count: usize,
     pub next: usize,
@@ -21,7 +21,7 @@ pub struct ReadEvents {
 }
 
 // The numbers that were read, at the front of an array, how many, and where the next word starts.
-#[derive(Drop)]
+#[derive(Clone, Copy)]
 pub struct ReadNumbers {
     pub count: usize,
     pub next: usize,

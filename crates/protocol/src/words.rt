@@ -4,7 +4,7 @@ ghost use Rattle.io.specs.Counts.{IsPrefixLen};
 ghost use Rattle.protocol.specs.Words.{digit_of, pair_of, next_word, is_hyphen};
 
 // Whether a number was readable, the number, or 0, and where the next word starts.
-#[derive(Drop)]
+#[derive(Clone, Copy)]
 pub struct ReadNumber {
     pub good: bool,
     pub value: u64,
@@ -12,14 +12,14 @@ pub struct ReadNumber {
 }
 
 // A yes or no, and where the next word starts.
-#[derive(Drop)]
+#[derive(Clone, Copy)]
 pub struct ReadFlag {
     pub value: bool,
     pub next: usize,
 }
 
 // Whether bytes were readable and had room, and how many were written.
-#[derive(Drop)]
+#[derive(Clone, Copy)]
 pub struct ReadBytes {
     pub good: bool,
     pub count: usize,

@@ -1,4 +1,6 @@
 // Replays the kept answers for alignments: a line of standard input is a request for `align`, and its answer is written. Every line has an end. It takes at most 256 events and lends at most 256 slots.
+#![tactic(auto)]
+
 use list_buffers::align_small;
 use protocol::input::{keep, more};
 use protocol::lists::events;

@@ -1,4 +1,6 @@
 // Replays the kept answers for edits: a line of standard input is a request for `edit`, and its answer is written. Every line has an end. It takes at most 256 events, pool events and edit numbers, and lends at most 256 slots.
+#![tactic(auto)]
+
 use list_buffers::edit_small;
 use protocol::input::{keep, more};
 use protocol::lists::{ReadEvents, ReadNumbers, events, numbers};

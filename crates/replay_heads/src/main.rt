@@ -1,4 +1,6 @@
 // Replays the kept answers for heads: a line of standard input is a request for `head`, and its answer is written. It lends at most 256 slots.
+#![tactic(auto)]
+
 use buffers::head_small;
 use protocol::print;
 use protocol::words::{after, bytes, flag, line_stop, number};

@@ -1,5 +1,7 @@
 // Replays the kept answers for tables of kinds: a line of standard input is a request for `sheet` with a table, told by its changes to the built-in one, and its answer is
 // written.
+#![tactic(auto)]
+
 ghost use Rattle.std.specs.Prelude.{◌≤◌};
 
 use protocol::print;

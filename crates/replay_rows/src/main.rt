@@ -1,4 +1,6 @@
 // Replays the kept answers for rows: a line of standard input is a request for `row`, and its answer is written. It lends at most 256 slots.
+#![tactic(auto)]
+
 use buffers::row_small;
 use protocol::print;
 use protocol::words::{after, bytes, flag, line_stop, number};

@@ -1,4 +1,6 @@
 // Replays the kept answers for sheets: a line of standard input is a request for `sheet`, and its answer is written.
+#![tactic(auto)]
+
 use protocol::print;
 use protocol::words::{after, line_stop};
 use tokenizer::kinds::builtin;

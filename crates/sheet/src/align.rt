@@ -6,7 +6,7 @@ ghost use Rattle.sheet.specs.Aligning.{line_from, aligns_from, line_alignments, 
 use tokenizer::moves::kind_at;
 
 // One stretch of a delimiter row: the kinds of its first and last byte that is no whitespace, 1 where there is none, and its end.
-#[derive(Drop)]
+#[derive(Clone, Copy)]
 pub struct Ends {
     pub first: u8,
     pub last: u8,
@@ -14,7 +14,7 @@ pub struct Ends {
 }
 
 // One stretch of a delimiter row: its alignment, whether it is empty, and its end.
-#[derive(Drop)]
+#[derive(Clone, Copy)]
 pub struct Mark {
     pub align: u8,
     pub empty: bool,

@@ -5,7 +5,7 @@ ghost use Rattle.sheet.specs.Calls.{no_verdict, refusal_of, judge_of, least_of};
 use crate::write::Counts;
 
 // A sheet is refused by a number, or accepted with the numbers of its tables, raw events, result events and alignments.
-#[derive(Drop)]
+#[derive(Clone, Copy)]
 pub enum Sheet {
     Refused(u8),
     Accepted {
@@ -17,7 +17,7 @@ pub enum Sheet {
 }
 
 // How many slots of each kind are lent.
-#[derive(Drop)]
+#[derive(Clone, Copy)]
 pub struct Lent {
     pub raw: usize,
     pub results: usize,
@@ -25,7 +25,7 @@ pub struct Lent {
 }
 
 // The answer, and how many slots of each kind stay as they are.
-#[derive(Drop)]
+#[derive(Clone, Copy)]
 pub struct Verdict {
     pub answer: Sheet,
     pub kept: Lent,

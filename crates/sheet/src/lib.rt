@@ -1,4 +1,6 @@
 // The walk over a whole sheet.
+#![tactic(auto)]
+
 ghost use Rattle.std.specs.Prelude.{◌≡◌, length};
 ghost use Rattle.sheet.specs.Calls.{sheet_of, sheet_raw, sheet_results, sheet_aligned};
 

@@ -15,7 +15,7 @@ use tokenizer::lines::{line_end, line_stop};
 use tokenizer::moves::kind_at;
 
 // Whether there is a head, where its line starts, where its delimiter row does, and how many columns it has.
-#[derive(Drop)]
+#[derive(Clone, Copy)]
 pub struct Opening {
     pub found: bool,
     pub line: u32,

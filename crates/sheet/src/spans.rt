@@ -11,21 +11,21 @@ use crate::seek::{closes_at, next_head};
 use tokenizer::lines::{line_end, line_stop};
 
 // Where a line starts: its number and its index.
-#[derive(Drop)]
+#[derive(Clone, Copy)]
 pub struct Where {
     pub line: u32,
     pub at: u32,
 }
 
 // Where the last row of a table ends, and the line where the walk goes on: the blank line or the remark behind it, or an empty one at the sheet's end.
-#[derive(Drop)]
+#[derive(Clone, Copy)]
 pub struct Tail {
     pub stop: u32,
     pub next: Where,
 }
 
 // Whether there is a table, and its places: its head line, where its delimiter row starts, how many alignments it has, where its last row ends, and the line where the walk goes on.
-#[derive(Drop)]
+#[derive(Clone, Copy)]
 pub struct Span {
     pub found: bool,
     pub line: u32,

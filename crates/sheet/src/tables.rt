@@ -21,7 +21,7 @@ use tokenizer::lines::line_end;
 use tokenizer::slots::put;
 
 // Where the writing has come to: the line, the place and the column there, and the next slot.
-#[derive(Drop)]
+#[derive(Clone, Copy)]
 pub struct Written {
     pub line: u32,
     pub at: u32,

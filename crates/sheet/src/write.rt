@@ -17,7 +17,7 @@ use tokenizer::event::Event;
 use tokenizer::lines::first_point;
 
 // How many tables, raw events, result events and alignments there are: the next slots.
-#[derive(Drop)]
+#[derive(Clone, Copy)]
 pub struct Counts {
     pub tables: usize,
     pub raw: usize,
@@ -26,7 +26,7 @@ pub struct Counts {
 }
 
 // The next table, and the counts of those before it.
-#[derive(Drop)]
+#[derive(Clone, Copy)]
 pub struct Tabled {
     pub next: Span,
     pub counts: Counts,

@@ -1,4 +1,6 @@
 // Calls of `sheet` for programs, with slots of local arrays.
+#![tactic(auto)]
+
 ghost use Rattle.std.specs.Prelude.{◌≡◌, length};
 ghost use Rattle.sheet.specs.Calls.{sheet_of, least_of};
 ghost use Rattle.sheet_buffers.specs.Reads.{read_of, part_of, left_raw, left_results, left_aligned};
@@ -8,7 +10,7 @@ use sheet::sheet;
 use tokenizer::event::Event;
 
 // A sheet's answer, and arrays that slots of were lent.
-#[derive(Drop)]
+#[derive(Clone, Copy)]
 pub struct Read {
     pub answer: Sheet,
     pub raw: [Event; 1024],

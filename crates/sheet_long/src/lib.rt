@@ -1,4 +1,6 @@
 // The call of `sheet` by the built-in table of kinds, with long local arrays, one in each function.
+#![tactic(auto)]
+
 ghost use Rattle.std.specs.Prelude.{◌≡◌, length};
 ghost use Rattle.tokenizer.specs.Bytes.{built_in};
 ghost use Rattle.sheet.specs.Calls.{sheet_of, least_of};
@@ -11,14 +13,14 @@ use tokenizer::kinds::builtin;
 use tokenizer::slots::at_or_blank;
 
 // A sheet's answer, and one of the result slots that were lent.
-#[derive(Drop)]
+#[derive(Clone, Copy)]
 pub struct Resulted {
     pub answer: Sheet,
     pub result: Event,
 }
 
 // A sheet's answer, and one of the raw and of the result slots that were lent.
-#[derive(Drop)]
+#[derive(Clone, Copy)]
 pub struct Long {
     pub answer: Sheet,
     pub event: Event,

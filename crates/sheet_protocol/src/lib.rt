@@ -1,4 +1,6 @@
 // A sheet's answer, written to standard output in the line protocol: its numbers, and its groups of slots, of arrays of 1,024.
+#![tactic(auto)]
+
 ghost use Rattle.std.specs.Prelude.{◌≤◌};
 
 use protocol::print;

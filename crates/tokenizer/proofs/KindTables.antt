@@ -2,7 +2,7 @@
 -- Assumes nothing.
 use Prim.Native.Nat.{ℕ, zero, suc, ◌+◌, ◌≤◌, ◌<◌}
 use mathlib.Core.Path.{◌≡◌, refl, ap, sym, ◌∙◌}
-use mathlib.Core.Bool.{Bool, true, false, cond, ◌&&◌, ◌||◌, not, true≢false, and_true, and_assoc}
+use mathlib.Core.Bool.{Bool, true, false, cond, ◌&&◌, ◌||◌, not, true≢false, and-true, and_assoc}
 use mathlib.Core.List.{List, [], ◌∷◌}
 use native.Mathlib.Nat.{add-zero, zero-add, add-suc, suc-add, add_assoc, le_of_suc-le-suc}
 use native.Mathlib.Numerals.{add-one}
@@ -21,7 +21,7 @@ use Rattle.tokenizer.proofs.Table.{lookup}
 -- nothing is left
 pub tally_done : (p : Tally) (b : ℕ) (t : List ℕ) → length t ≤ b → tallied p b (drop b t) ≡ p
 unfolding each count
-tally_done p b t l = rw (drop_of_length-le t l, and_true, and_true, add-zero, add-zero, add-zero, add-zero)
+tally_done p b t l = rw (drop_of_length-le t l, and-true, and-true, add-zero, add-zero, add-zero, add-zero)
 
 -- an entry and those behind it
 pub tally-more : (p : Tally) (b : ℕ) (t : List ℕ) → b < length t → tallied (tally_step p b (get_or t b 0)) (b + 1) (drop (b + 1) t) ≡ tallied p b (drop b t)

@@ -11,22 +11,10 @@ pub mod Units
 pub mod Spaces
 pub mod Widths
 -- Walks over slices of records.
-pub mod Data
-pub mod Slices
-pub mod Refs
-pub mod Calls
-pub mod Arrays
-pub mod Relend
-pub mod Lent
-pub mod Parts
-pub mod Fields
-pub mod Lits
 pub mod Filling
 pub mod Reading
 pub mod Firsts
 pub mod Onward
 pub mod Turning
-pub mod Types
 pub mod Blanks
 pub mod Writing
-pub mod Prelude

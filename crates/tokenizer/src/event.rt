@@ -5,7 +5,7 @@ ghost use Rattle.tokenizer.specs.Events.{blank_event, enter, leave};
 
 // A place in the sheet. Lines and columns count from 1; `vs` counts the units passed inside a tab.
 #[repr(C)]
-#[derive(Drop)]
+#[derive(Clone, Copy)]
 pub struct Point {
     pub line: u32,
     pub column: u32,
@@ -15,7 +15,7 @@ pub struct Point {
 
 // A kind (0 blank, 1 enter, 2 exit), a name, a point, and a link (0 none, 1 text).
 #[repr(C)]
-#[derive(Drop)]
+#[derive(Clone, Copy)]
 pub struct Event {
     pub kind: u8,
     pub name: u8,
@@ -27,7 +27,7 @@ pub struct Event {
 }
 
 // The names of events, by the numbers of 01.
-#[derive(Drop)]
+#[derive(Clone, Copy)]
 pub struct Name {}
 
 impl Name {

@@ -7,13 +7,13 @@ use crate::event::{Event, Point};
 use crate::lines::line_end;
 
 // The byte that is read at a point, or the end of the sheet.
-#[derive(Drop)]
+#[derive(Clone, Copy)]
 pub enum Byte {
     At(u8),
     End,
 }
 
-#[derive(Drop)]
+#[derive(Clone, Copy)]
 pub struct Feed {
     pub point: Point,
     pub current: Byte,

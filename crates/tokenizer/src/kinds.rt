@@ -50,7 +50,7 @@ pub fn kind_in(kinds: &[u8], b: u8) -> u8
 
 // What a pass over a table finds: whether no kind is above 6, whether kinds 1 and 2 are those of their bytes, and how many bytes each of
 // kinds 3 to 6 has.
-#[derive(Drop)]
+#[derive(Clone, Copy)]
 pub struct Tally {
     pub known: bool,
     pub exact: bool,

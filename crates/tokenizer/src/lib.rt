@@ -1,4 +1,5 @@
 // The byte feed of markdown 1.0.0's tokenizer: kinds of bytes, points, events, units, whitespace runs and lines by value, a feed that is lent, and slots of events.
+#![tactic(auto)]
 
 pub mod event;
 pub mod feed;

@@ -8,7 +8,7 @@ use crate::feed::{Byte, Feed};
 use crate::kinds::kind;
 
 // Whether an attempt was right, with the feed behind it, or with the copy that was kept.
-#[derive(Drop)]
+#[derive(Clone, Copy)]
 pub struct Attempt {
     pub right: bool,
     pub feed: Feed,

@@ -1,6 +1,8 @@
 // Reads the worst lines of a sheet of 65,536 bytes, made of two bytes in turn: as a head line over `-|`, as a delimiter row under `a|b`,
 // and as a body row, each with as many slots as one can need and with none. Then a head of 16,383 columns, and `head` and `row` on 65,537 bytes.
 // A line is the answer's numbers and its last event, a blank one where it is refused, as the harness gives them for the same requests.
+#![tactic(auto)]
+
 ghost use Rattle.std.specs.Prelude.{◌≤◌};
 
 use buffers::{head_long, row_long};

@@ -1,5 +1,7 @@
 // Reads the worst sheets of 65,536 bytes, each with 98,304 raw, 196,608 result and 10,240 alignment slots and with none, and one byte more than a sheet may have.
 // A line is the answer's numbers and its last raw and result event, blank ones where there is none, as the harness gives them for the same requests.
+#![tactic(auto)]
+
 ghost use Rattle.std.specs.Prelude.{◌≤◌};
 
 use protocol::print;

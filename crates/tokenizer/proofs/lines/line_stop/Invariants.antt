@@ -1,0 +1,10 @@
+-- After each byte the line ends where it ended before.
+use Rattle.std.proofs.Common.{◌≡◌, ◌+◌, ◌-◌, length, drop}
+use Rattle.tokenizer.specs.Lines.{line_body}
+use Rattle.tokenizer.proofs.lines.line_stop.Given as goal
+
+abbrev pub invariant-loop-i : goal.invariant-loop-i
+invariant-loop-i l = l.i + length (line_body (drop l.i l.s)) ≡ l.initial.i + length (line_body (drop l.initial.i l.s))
+
+abbrev pub decreases-loop-i : goal.decreases-loop-i
+decreases-loop-i l = length l.s - l.i
