@@ -4,7 +4,6 @@ use native.Mathlib.Omega.{arith}
 use Rattle.tokenizer.specs.Bytes.{kind_in}
 use Rattle.tokenizer.specs.Moves.{rest_of}
 use Rattle.gfm_table.proofs.Plans.{delimiter-few, rest-few}
-use borrow.Author.Rules.{rules}
 use Rattle.gfm_table.proofs.calls.head_events.Goals as goal
 
 pub overflow_add-result : goal.overflow_add-result

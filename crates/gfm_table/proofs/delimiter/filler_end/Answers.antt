@@ -1,15 +1,14 @@
 -- `filler_end` meets its contract: after each byte the run ends where it ended before. The measure is the bytes left.
 -- Assumes nothing.
-use Prim.Native.Nat.{◌-◌, ◌<◌}
-use mathlib.Core.Path.{◌≡◌, refl, sym, ◌∙◌}
+use Prim.Native.Nat.{◌<◌}
+use mathlib.Core.Path.{◌≡◌, sym, ◌∙◌}
 use mathlib.Core.Logic.{◌⊎◌, inl, inr, ⊎_elim}
 use native.Mathlib.Omega.{arith}
 use borrow.Author.Rules.{rules}
-use lib.ListN.{length, drop}
+use lib.ListN.{drop}
 use Rattle.tokenizer.specs.Bytes.{kind_in}
-use Rattle.tokenizer.specs.Moves.{Inside}
 use Rattle.gfm_table.specs.Delimiters.{filler_run}
-use Rattle.tokenizer.proofs.Ahead.{Front, goes, run_end, end_none, end_over, over_inside}
+use Rattle.tokenizer.proofs.Ahead.{goes, end_none, end_over, over_inside}
 use Rattle.gfm_table.proofs.Fillers.{filler_on, fillers_stop}
 use Rattle.gfm_table.proofs.delimiter.filler_end.Goals as goal
 use Rattle.gfm_table.proofs.delimiter.filler_end.Goals.{in_default-via-then-this-lt1, in_default-via-else-this-lt1+else-this-lt4}

@@ -2,10 +2,9 @@
 -- Assumes nothing.
 use mathlib.Core.Path.{sym, ◌∙◌}
 use native.Mathlib.Omega.{arith}
-use borrow.Author.Rules.{rules}
 use Rattle.tokenizer.specs.Bytes.{kind_in}
 use Rattle.tokenizer.specs.Lines.{indent}
-use Rattle.tokenizer.proofs.Ahead.{Front, goes, run_end, over_inside}
+use Rattle.tokenizer.proofs.Ahead.{goes, run_end, over_inside}
 use Rattle.gfm_table.proofs.Delimiters.{solid-inside}
 use Rattle.gfm_table.proofs.Stretches.{values_led_at, values_plain_at}
 use Rattle.gfm_table.proofs.delimiter.head_delimiter_before.Goals as goal

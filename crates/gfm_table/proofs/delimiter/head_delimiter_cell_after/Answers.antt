@@ -1,7 +1,6 @@
 -- `head_delimiter_cell_after` meets its contract: the value's stretch is closed where whitespace leads to its end.
 -- Assumes nothing.
 use mathlib.Core.Path.{sym, ◌∙◌}
-use borrow.Author.Rules.{rules}
 use Rattle.gfm_table.proofs.Delimiters.{blank_value, blank_bad}
 use Rattle.gfm_table.proofs.delimiter.head_delimiter_cell_after.Goals as goal
 

@@ -1,16 +1,10 @@
--- `head_delimiter_cells` meets its contract: after each value the count and what is left make the same answer. The measure is the bytes left.
--- Assumes nothing.
+-- After each value the count and what is left make the same answer. The measure is the bytes left.
 use Prim.Native.Nat.{◌-◌, ◌≤◌}
-use mathlib.Core.Path.{◌≡◌, refl, sym, ◌∙◌}
-use native.Mathlib.Omega.{arith}
-use borrow.Author.Rules.{rules}
-use lib.ListN.{length, drop}
+use mathlib.Core.Path.{◌≡◌}
+use lib.ListN.{length}
 use Rattle.tokenizer.specs.Bytes.{kind_in}
-use Rattle.gfm_table.specs.declared.delimiter.Cell.TheVariants.{Empty, Value, Bad}
-use Rattle.tokenizer.specs.Moves.{Inside, rest_of, over_at}
-use Rattle.gfm_table.specs.Delimiters.{rest_at, cell_at}
-use Rattle.tokenizer.proofs.Ahead.{Front, goes, over_inside}
-use Rattle.gfm_table.proofs.Stretches.{rest_bad, empty-more, empty-last, value_inside, value_later, value_more, value_last}
+use Rattle.tokenizer.specs.Moves.{Inside, rest_of}
+use Rattle.gfm_table.specs.Delimiters.{rest_at}
 use Rattle.gfm_table.proofs.delimiter.head_delimiter_cells.Given as goal
 
 abbrev pub invariant-loop-e : goal.invariant-loop-e

@@ -3,8 +3,7 @@
 use mathlib.Core.Path.{sym, ◌∙◌}
 use native.Mathlib.Omega.{arith}
 use borrow.Author.Rules.{rules}
-use Rattle.tokenizer.specs.Bytes.{kind_in}
-use Rattle.tokenizer.proofs.Ahead.{Front, goes, over_inside}
+use Rattle.tokenizer.proofs.Ahead.{goes, over_inside}
 use Rattle.gfm_table.proofs.Delimiters.{closed-colon, closed_none}
 use Rattle.gfm_table.proofs.delimiter.head_delimiter_filler.Goals as goal
 use mathlib.Core.Path.{◌≡◌}

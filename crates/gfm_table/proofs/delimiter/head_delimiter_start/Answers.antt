@@ -1,7 +1,5 @@
 -- `head_delimiter_start` meets its contract: the first byte rules out most lines.
 -- Assumes nothing.
-use mathlib.Core.Logic.{inl, inr}
-use native.Mathlib.Omega.{arith}
 use borrow.Author.Rules.{rules}
 use Rattle.tokenizer.specs.Moves.{rest_of}
 use Rattle.gfm_table.proofs.ValuePlaces.{no_row, count_other}

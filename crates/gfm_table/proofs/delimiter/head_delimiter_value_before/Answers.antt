@@ -1,12 +1,10 @@
 -- `head_delimiter_value_before` meets its contract: nothing but whitespace, a colon and hyphens, or hyphens.
 -- Assumes nothing.
-use Prim.Native.Nat.{ℕ}
-use mathlib.Core.Path.{◌≡◌, refl, sym, ◌∙◌}
-use native.Mathlib.Omega.{arith}
+use mathlib.Core.Path.{refl, sym, ◌∙◌}
 use borrow.Author.Rules.{rules}
 use Rattle.tokenizer.specs.Bytes.{kind_in}
 use Rattle.tokenizer.specs.Lines.{indent}
-use Rattle.tokenizer.proofs.Ahead.{Front, run_end, over_inside}
+use Rattle.tokenizer.proofs.Ahead.{run_end, over_inside}
 use Rattle.gfm_table.proofs.Delimiters.{goes_in, solid-inside, cell-empty, cell-colon, cell-plain}
 use Rattle.gfm_table.proofs.delimiter.head_delimiter_value_before.Goals as goal
 

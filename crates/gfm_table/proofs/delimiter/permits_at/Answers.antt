@@ -1,7 +1,6 @@
 -- `permits_at` meets its contract: whitespace ends within 3 units where its bytes lead to the column 4 at most.
 -- Assumes nothing.
 use mathlib.Core.Path.{refl, ◌∙◌}
-use borrow.Author.Rules.{rules}
 use lib.ListN.{drop}
 use Rattle.tokenizer.specs.Bytes.{kind_in}
 use Rattle.tokenizer.specs.Points.{column_past}

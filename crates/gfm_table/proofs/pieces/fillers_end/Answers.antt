@@ -1,16 +1,13 @@
 -- `pieces::fillers_end` meets its contract: after each byte the run ends where it ended before. The measure is the bytes left.
 -- Assumes nothing.
-use Prim.Native.Nat.{◌+◌, ◌-◌, ◌<◌}
-use mathlib.Core.Path.{◌≡◌, refl, ap, sym, ◌∙◌}
+use Prim.Native.Nat.{◌<◌}
+use mathlib.Core.Path.{ap, sym, ◌∙◌}
 use mathlib.Core.Logic.{◌⊎◌, inl, inr, ⊎_elim}
 use native.Mathlib.Omega.{arith}
 use borrow.Author.Rules.{rules}
 use lib.ListN.{length, drop}
-use Rattle.tokenizer.specs.Bytes.{kind_in}
-use Rattle.gfm_table.specs.Delimiters.{filler_run}
-use Rattle.tokenizer.proofs.Ahead.{Front, goes}
+use Rattle.tokenizer.proofs.Ahead.{goes}
 use Rattle.gfm_table.proofs.Fillers.{fillers_stop}
-use Rattle.gfm_table.proofs.Passing.{line_from}
 use Rattle.gfm_table.proofs.Marks.{fillers_more}
 use Rattle.gfm_table.proofs.pieces.fillers_end.Goals as goal
 use Rattle.gfm_table.proofs.pieces.fillers_end.Goals.{in_default-via-then-this-lt1, in_default-via-else-this-lt1+else-this-lt4}

@@ -1,17 +1,10 @@
--- `pieces::fillers_end` meets its contract: after each byte the run ends where it ended before. The measure is the bytes left.
--- Assumes nothing.
-use Prim.Native.Nat.{◌+◌, ◌-◌, ◌<◌}
-use mathlib.Core.Path.{◌≡◌, refl, ap, sym, ◌∙◌}
-use mathlib.Core.Logic.{◌⊎◌, inl, inr, ⊎_elim}
-use native.Mathlib.Omega.{arith}
-use borrow.Author.Rules.{rules}
-use lib.ListN.{length, drop}
+-- After each byte the run ends where it ended before. The measure is the bytes left.
+use Prim.Native.Nat.{◌+◌, ◌-◌}
+use mathlib.Core.Path.{◌≡◌}
+use lib.ListN.{length}
 use Rattle.tokenizer.specs.Bytes.{kind_in}
 use Rattle.gfm_table.specs.Delimiters.{filler_run}
-use Rattle.tokenizer.proofs.Ahead.{Front, goes}
-use Rattle.gfm_table.proofs.Fillers.{fillers_stop}
 use Rattle.gfm_table.proofs.Passing.{line_from}
-use Rattle.gfm_table.proofs.Marks.{fillers_more}
 use Rattle.gfm_table.proofs.pieces.fillers_end.Given as goal
 
 abbrev pub invariant-loop-i : goal.invariant-loop-i

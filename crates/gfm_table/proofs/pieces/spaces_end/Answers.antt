@@ -1,14 +1,9 @@
 -- `pieces::spaces_end` meets its contract: after each byte the run ends where it ended before.
 -- Assumes nothing.
-use Prim.Native.Nat.{◌+◌, ◌-◌}
-use mathlib.Core.Path.{◌≡◌, refl, sym, ◌∙◌}
+use mathlib.Core.Path.{sym, ◌∙◌}
 use native.Mathlib.Omega.{arith}
-use borrow.Author.Rules.{rules}
-use lib.ListN.{length}
-use Rattle.tokenizer.specs.Bytes.{kind_in}
-use Rattle.tokenizer.specs.Lines.{indent}
-use Rattle.tokenizer.proofs.Ahead.{Front, goes}
-use Rattle.gfm_table.proofs.Passing.{line_from, spaces-stop, spaces-more}
+use Rattle.tokenizer.proofs.Ahead.{goes}
+use Rattle.gfm_table.proofs.Passing.{spaces-stop, spaces-more}
 use Rattle.gfm_table.proofs.pieces.spaces_end.Goals as goal
 
 pub loop-i-preserved : goal.loop-i-preserved

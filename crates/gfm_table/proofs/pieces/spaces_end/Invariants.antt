@@ -1,14 +1,10 @@
--- `pieces::spaces_end` meets its contract: after each byte the run ends where it ended before.
--- Assumes nothing.
+-- After each byte the run ends where it ended before.
 use Prim.Native.Nat.{◌+◌, ◌-◌}
-use mathlib.Core.Path.{◌≡◌, refl, sym, ◌∙◌}
-use native.Mathlib.Omega.{arith}
-use borrow.Author.Rules.{rules}
+use mathlib.Core.Path.{◌≡◌}
 use lib.ListN.{length}
 use Rattle.tokenizer.specs.Bytes.{kind_in}
 use Rattle.tokenizer.specs.Lines.{indent}
-use Rattle.tokenizer.proofs.Ahead.{Front, goes}
-use Rattle.gfm_table.proofs.Passing.{line_from, spaces-stop, spaces-more}
+use Rattle.gfm_table.proofs.Passing.{line_from}
 use Rattle.gfm_table.proofs.pieces.spaces_end.Given as goal
 
 abbrev pub invariant-loop-i : goal.invariant-loop-i

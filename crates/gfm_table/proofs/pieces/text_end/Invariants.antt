@@ -1,17 +1,11 @@
--- `pieces::text_end` meets its contract: after each byte, and after each escape, the run ends where it ended before. The measure is the bytes left.
--- Assumes nothing.
-use Prim.Native.Nat.{◌+◌, ◌-◌, ◌<◌}
+-- After each byte, and after each escape, the run ends where it ended before. The measure is the bytes left.
+use Prim.Native.Nat.{◌+◌, ◌-◌}
 use mathlib.Core.Bool.{false}
-use mathlib.Core.Path.{◌≡◌, refl, ap, sym, ◌∙◌}
-use mathlib.Core.Logic.{◌⊎◌, inl, inr, ⊎_elim}
-use native.Mathlib.Omega.{arith}
-use borrow.Author.Rules.{rules}
-use lib.ListN.{length, drop}
+use mathlib.Core.Path.{◌≡◌}
+use lib.ListN.{length}
 use Rattle.tokenizer.specs.Bytes.{kind_in}
 use Rattle.gfm_table.specs.Machine.{data_run}
-use Rattle.tokenizer.proofs.Ahead.{Front, goes}
-use Rattle.gfm_table.proofs.Stops.{data_stops}
-use Rattle.gfm_table.proofs.Passing.{line_from, slash_more, data_more}
+use Rattle.gfm_table.proofs.Passing.{line_from}
 use Rattle.gfm_table.proofs.pieces.text_end.Given as goal
 
 abbrev pub invariant-loop-i : goal.invariant-loop-i

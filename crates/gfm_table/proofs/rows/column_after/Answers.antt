@@ -1,6 +1,5 @@
 -- `rows::column_after` meets its contract.
 -- Assumes nothing.
-use borrow.Author.Rules.{rules}
 use borrow.Author.Tests.{eq-eqb, ne_eqb}
 use Rattle.tokenizer.specs.Points.{column_after}
 use Rattle.gfm_table.proofs.rows.column_after.Goals as goal

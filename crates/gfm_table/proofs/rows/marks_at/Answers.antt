@@ -1,16 +1,12 @@
 -- `rows::marks_at` meets its contract: the kind of the byte at the place says which piece is next.
 -- Assumes nothing.
-use Prim.Native.Nat.{ℕ}
-use mathlib.Core.Path.{◌≡◌, refl, sym, ◌∙◌}
+use mathlib.Core.Path.{refl, sym, ◌∙◌}
 use native.Mathlib.Omega.{arith}
 use lib.ListN.{drop}
-use Rattle.tokenizer.specs.Bytes.{kind_in}
-use Rattle.tokenizer.specs.Moves.{Inside}
-use Rattle.tokenizer.proofs.Ahead.{Front, goes, ends}
+use Rattle.tokenizer.proofs.Ahead.{goes, ends}
 use Rattle.gfm_table.specs.Rows.{delimiter_pieces}
-use Rattle.gfm_table.specs.Delimiters.{filler_run}
 use Rattle.gfm_table.specs.Places.{point_in}
-use Rattle.gfm_table.proofs.Fillers.{First, first_space, first_divider, first_marker, first_filler}
+use Rattle.gfm_table.proofs.Fillers.{first_space, first_divider, first_marker, first_filler}
 use Rattle.gfm_table.proofs.Passing.{line_from}
 use Rattle.gfm_table.proofs.Placing.{inside-at, byte-column, filler_columns, flat-placed}
 use borrow.Author.Rules.{rules}

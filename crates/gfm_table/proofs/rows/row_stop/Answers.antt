@@ -1,7 +1,6 @@
 -- `rows::row_stop` meets its contract.
 -- Assumes nothing.
 use native.Mathlib.Omega.{arith}
-use borrow.Author.Rules.{rules}
 use Rattle.tokenizer.proofs.Ends.{body-inside}
 use Rattle.gfm_table.specs.Places.{point_in}
 use Rattle.gfm_table.proofs.Placing.{inside-at}

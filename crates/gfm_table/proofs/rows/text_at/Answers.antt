@@ -1,18 +1,14 @@
 -- `rows::text_at` meets its contract: the kind of the byte at the place says which piece is next.
 -- Assumes nothing.
-use Prim.Native.Nat.{ℕ}
-use mathlib.Core.Path.{◌≡◌, refl, sym, ◌∙◌}
+use mathlib.Core.Path.{refl, sym, ◌∙◌}
 use mathlib.Core.Bool.{false}
 use native.Mathlib.Omega.{arith}
 use lib.ListN.{drop}
-use Rattle.tokenizer.specs.Bytes.{kind_in}
-use Rattle.tokenizer.specs.Moves.{Inside}
-use Rattle.tokenizer.proofs.Ahead.{Front, goes, ends}
+use Rattle.tokenizer.proofs.Ahead.{goes, ends}
 use Rattle.gfm_table.specs.Rows.{row_pieces}
-use Rattle.gfm_table.specs.Machine.{data_run}
 use Rattle.gfm_table.specs.Places.{point_in}
 use Rattle.gfm_table.proofs.Runs.{data_columns}
-use Rattle.gfm_table.proofs.Machine.{First, first_space, first_divider, first_data, data_ahead}
+use Rattle.gfm_table.proofs.Machine.{first_space, first_divider, first_data, data_ahead}
 use Rattle.gfm_table.proofs.Passing.{line_from}
 use Rattle.gfm_table.proofs.Placing.{inside-at, byte-column, flat-placed}
 use borrow.Author.Rules.{rules}

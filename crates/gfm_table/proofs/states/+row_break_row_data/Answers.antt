@@ -1,7 +1,7 @@
 -- The cycle of calls {row_break, row_data}. The measure: the bytes left, then the state's rank, 1 between pieces and 0 in data.
 -- `row_break` reads the first piece, by which the rest of the row is shorter; in data it hands over to `row_data`, which reads the piece and comes back.
 -- Assumes nothing.
-use mathlib.Core.Path.{◌≡◌, refl, sym, ◌∙◌}
+use mathlib.Core.Path.{refl, sym, ◌∙◌}
 use Rattle.std.proofs.Common.{rules}
 use native.Mathlib.Omega.{arith}
 use Rattle.tokenizer.proofs.Ahead.{goes}

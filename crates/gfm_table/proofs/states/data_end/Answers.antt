@@ -1,13 +1,12 @@
 -- `data_end` meets its contract: the run ends where it ends by its places, and no tab lies in it.
 -- Assumes nothing.
 use mathlib.Core.Bool.{false}
-use mathlib.Core.Path.{◌≡◌, sym, ◌∙◌}
+use mathlib.Core.Path.{◌≡◌}
 use native.Mathlib.Omega.{arith}
-use borrow.Author.Rules.{rules}
-use Prim.Native.Nat.{◌+◌, ◌-◌, ◌≤◌}
+use Prim.Native.Nat.{◌-◌, ◌≤◌}
 use lib.ListN.{length}
 use Rattle.tokenizer.specs.Bytes.{kind_in}
-use Rattle.tokenizer.specs.Moves.{rest_of, Inside}
+use Rattle.tokenizer.specs.Moves.{rest_of}
 use Rattle.tokenizer.proofs.Ahead.{inside-end}
 use Rattle.gfm_table.specs.Machine.{data_run, data_rest}
 use Rattle.gfm_table.proofs.Runs.{data_split, data_columns}

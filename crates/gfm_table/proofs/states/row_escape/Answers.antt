@@ -2,10 +2,8 @@
 -- Assumes nothing.
 use mathlib.Core.Path.{ap}
 use native.Mathlib.Omega.{arith}
-use borrow.Author.Rules.{rules}
 use lib.ListN.{length, drop}
-use Rattle.tokenizer.specs.Bytes.{kind_in}
-use Rattle.tokenizer.proofs.Ahead.{Front, goes}
+use Rattle.tokenizer.proofs.Ahead.{goes}
 use Rattle.gfm_table.proofs.Stops.{escape_stops}
 use Rattle.gfm_table.proofs.Passing.{escape_one}
 use Rattle.gfm_table.proofs.states.row_escape.Goals as goal

@@ -34,9 +34,9 @@ loop-i-preserved c =
     rw c.step-r.ensures (
       good-next c.requires.1.reads s (λ e. []) l.cursor l.invariant.0,
       l.invariant.1
-      ∙ ap (λ (m : ℕ). take l.i l.slots ++ gave kind s m l.cursor) k
-      ∙ ap (λ (r : List Event). take l.i l.slots ++ r) (gave-more kind s l.cursor (n - (l.i + 1)))
-      ∙ take-set l.slots l.i (step_of kind s l.cursor).event (gave kind s (n - (l.i + 1)) next) (omega arith),
+          ∙ ap (λ (m : ℕ). take l.i l.slots ++ gave kind s m l.cursor) k
+          ∙ ap (λ (r : List Event). take l.i l.slots ++ r) (gave-more kind s l.cursor (n - (l.i + 1)))
+          ∙ take-set l.slots l.i (step_of kind s l.cursor).event (gave kind s (n - (l.i + 1)) next) (omega arith),
     )
 
 pub returns : goal.returns
@@ -46,9 +46,9 @@ returns c =
     let kind = kind_in c.args.kinds.now in
     let k : length c.args.slots.now - l.i ≡ 0 = omega arith in
     sym (
-      l.invariant.1
-      ∙ ap (λ (m : ℕ). take l.i l.slots ++ gave kind s m l.cursor) k
-      ∙ ap (λ (r : List Event). take l.i l.slots ++ r) (gave-none kind s l.cursor)
-      ∙ append-nil (take l.i l.slots)
-      ∙ take_all l.i l.slots (omega arith)
+    l.invariant.1
+    ∙ ap (λ (m : ℕ). take l.i l.slots ++ gave kind s m l.cursor) k
+    ∙ ap (λ (r : List Event). take l.i l.slots ++ r) (gave-none kind s l.cursor)
+    ∙ append-nil (take l.i l.slots)
+    ∙ take_all l.i l.slots (omega arith)
     )

@@ -1,11 +1,9 @@
 -- `stream::text_piece` meets its contract.
 -- Assumes nothing.
-use Prim.Native.Nat.{ℕ}
-use mathlib.Core.Path.{◌≡◌, refl, sym, ◌∙◌}
+use mathlib.Core.Path.{refl, sym, ◌∙◌}
 use native.Mathlib.Omega.{arith}
 use lib.ListN.{drop}
-use Rattle.tokenizer.specs.Bytes.{kind_in}
-use Rattle.tokenizer.proofs.Ahead.{Front, goes, ends}
+use Rattle.tokenizer.proofs.Ahead.{goes, ends}
 use Rattle.gfm_table.specs.Rows.{row_pieces}
 use Rattle.gfm_table.proofs.Machine.{first_space, first_divider, first_data, data_ahead}
 use borrow.Author.Rules.{rules}

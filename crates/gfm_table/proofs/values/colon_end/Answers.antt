@@ -2,9 +2,7 @@
 -- Assumes nothing.
 use mathlib.Core.Path.{sym, ◌∙◌}
 use native.Mathlib.Omega.{arith}
-use borrow.Author.Rules.{rules}
-use Rattle.tokenizer.specs.Bytes.{kind_in}
-use Rattle.tokenizer.proofs.Ahead.{Front, goes}
+use Rattle.tokenizer.proofs.Ahead.{goes}
 use Rattle.gfm_table.proofs.ValuePlaces.{colon-one, colon-none}
 use Rattle.gfm_table.proofs.values.colon_end.Goals as goal
 

@@ -1,14 +1,8 @@
 -- `values::hyphens_end` meets its contract: after each byte the run ends where it ended before.
 -- Assumes nothing.
-use Prim.Native.Nat.{◌+◌, ◌-◌}
-use mathlib.Core.Path.{◌≡◌, refl, sym, ◌∙◌}
+use mathlib.Core.Path.{sym, ◌∙◌}
 use native.Mathlib.Omega.{arith}
-use borrow.Author.Rules.{rules}
-use lib.ListN.{length}
-use Rattle.tokenizer.specs.Bytes.{kind_in}
-use Rattle.tokenizer.specs.Moves.{run_of}
-use Rattle.tokenizer.proofs.Ahead.{Front, goes}
-use Rattle.gfm_table.proofs.Passing.{line_from}
+use Rattle.tokenizer.proofs.Ahead.{goes}
 use Rattle.gfm_table.proofs.ValuePlaces.{hyphens-stop, hyphens-more}
 use Rattle.gfm_table.proofs.values.hyphens_end.Goals as goal
 

@@ -1,15 +1,11 @@
 -- `values::marked_from` meets its contract. The measure is the bytes left.
 -- Assumes nothing.
-use Prim.Native.Nat.{◌-◌}
-use mathlib.Core.Path.{◌≡◌, refl, sym, ◌∙◌}
+use mathlib.Core.Path.{◌≡◌, sym, ◌∙◌}
 use native.Mathlib.Omega.{arith}
 use borrow.Author.Rules.{rules}
 use borrow.Author.Tests.{ne_eqb}
-use lib.ListN.{length, drop}
-use Rattle.tokenizer.specs.Bytes.{kind_in}
-use Rattle.gfm_table.specs.Heads.{marked}
-use Rattle.tokenizer.specs.Lines.{line_body}
-use Rattle.tokenizer.proofs.Ahead.{Front, goes}
+use lib.ListN.{drop}
+use Rattle.tokenizer.proofs.Ahead.{goes}
 use Rattle.gfm_table.proofs.Stretches.{unmarked, marked-at}
 use Rattle.gfm_table.proofs.values.marked_from.Goals as goal
 

@@ -1,15 +1,6 @@
 -- `values::value_end` meets its contract: whitespace, a colon, hyphens, a colon and whitespace, up to the end of the stretch.
 -- Assumes nothing.
-use Prim.Native.Nat.{ℕ}
-use mathlib.Core.Path.{◌≡◌}
-use mathlib.Core.Bool.{true, false}
-use mathlib.Core.List.{List}
 use native.Mathlib.Omega.{arith}
-use borrow.Author.Rules.{rules}
-use Rattle.tokenizer.specs.Bytes.{kind_in}
-use Rattle.tokenizer.specs.Lines.{is_empty}
-use Rattle.gfm_table.specs.Delimiters.{stretch, value_end}
-use Rattle.gfm_table.proofs.Passing.{line_from}
 use Rattle.gfm_table.proofs.ValuePlaces.{no-hyphens, value_ends, value_goes_on, stretch_over, stretch-more}
 use Rattle.gfm_table.proofs.values.value_end.Goals as goal
 

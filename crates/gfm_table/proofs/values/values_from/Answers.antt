@@ -1,17 +1,9 @@
 -- `values::values_from` meets its contract: after each value the number and what is left make the same. The measure is the bytes left.
 -- Assumes nothing.
-use Prim.Native.Nat.{◌-◌, ◌≤◌}
-use mathlib.Core.Path.{◌≡◌, refl, sym, ◌∙◌}
-use mathlib.Core.Bool.{true}
+use mathlib.Core.Path.{sym, ◌∙◌}
 use native.Mathlib.Omega.{arith}
-use borrow.Author.Rules.{rules}
-use lib.ListN.{length}
-use Rattle.tokenizer.specs.Bytes.{kind_in}
-use Rattle.tokenizer.proofs.Ahead.{Front, goes}
-use Rattle.gfm_table.specs.Heads.{is_value}
-use Rattle.gfm_table.specs.Delimiters.{written, rest_count}
-use Rattle.gfm_table.proofs.Passing.{line_from}
-use Rattle.gfm_table.proofs.ValuePlaces.{stop_from, end_none, end-some, count-more, count-last, count-empty, count_bad}
+use Rattle.tokenizer.proofs.Ahead.{goes}
+use Rattle.gfm_table.proofs.ValuePlaces.{end_none, end-some, count-more, count-last, count-empty, count_bad}
 use Rattle.gfm_table.proofs.values.values_from.Goals as goal
 
 pub returns-then-kind_at-eq2 : goal.returns-then-kind_at-eq2

@@ -1,17 +1,10 @@
--- `values::values_from` meets its contract: after each value the number and what is left make the same. The measure is the bytes left.
--- Assumes nothing.
+-- After each value the number and what is left make the same. The measure is the bytes left.
 use Prim.Native.Nat.{◌-◌, ◌≤◌}
-use mathlib.Core.Path.{◌≡◌, refl, sym, ◌∙◌}
-use mathlib.Core.Bool.{true}
-use native.Mathlib.Omega.{arith}
-use borrow.Author.Rules.{rules}
+use mathlib.Core.Path.{◌≡◌}
 use lib.ListN.{length}
 use Rattle.tokenizer.specs.Bytes.{kind_in}
-use Rattle.tokenizer.proofs.Ahead.{Front, goes}
-use Rattle.gfm_table.specs.Heads.{is_value}
-use Rattle.gfm_table.specs.Delimiters.{written, rest_count}
+use Rattle.gfm_table.specs.Delimiters.{rest_count}
 use Rattle.gfm_table.proofs.Passing.{line_from}
-use Rattle.gfm_table.proofs.ValuePlaces.{stop_from, end_none, end-some, count-more, count-last, count-empty, count_bad}
 use Rattle.gfm_table.proofs.values.values_from.Given as goal
 
 abbrev pub invariant-loop-at : goal.invariant-loop-at
