@@ -3,9 +3,12 @@
 
 ghost use Rattle.std.specs.Prelude.{◌≤◌};
 
+use protocol::input::fill;
 use protocol::print;
 use sheet::calls::Sheet;
 use sheet_buffers::read_small;
+use std::io;
+use std::io::{BufWriter, Write};
 use tokenizer::event::{Event, Name};
 use tokenizer::kinds::builtin;
 
@@ -73,24 +76,25 @@ fn distance(from: u32, to: u32) -> u32 {
 }
 
 // The letter of an alignment.
-fn letter(a: u8) {
+fn letter(out: &mut impl Write, a: u8) -> io::Result<()> {
     match a {
-        2 => print::text(b"L"),
-        3 => print::text(b"R"),
-        4 => print::text(b"C"),
-        _ => print::text(b"N"),
+        2 => print::text(out, b"L"),
+        3 => print::text(out, b"R"),
+        4 => print::text(out, b"C"),
+        _ => print::text(out, b"N"),
     }
 }
 
 // The letters of some alignments.
-fn letters(alignments: [u8; 1024], from: usize, to: usize)
+fn letters(out: &mut impl Write, alignments: [u8; 1024], from: usize, to: usize) -> io::Result<()>
     requires { to ≤ 1024 }
 {
     let mut i = from;
     while i < to {
-        letter(alignments[i]);
+        letter(out, alignments[i])?;
         i += 1;
     }
+    Ok(())
 }
 
 // The columns of the table entered at a place: the values of its delimiter row.
@@ -110,37 +114,43 @@ fn columns(results: [Event; 1024], at: usize) -> usize {
 }
 
 // The line of a table: its number, its head line, its columns and their letters.
-fn table(s: Seen, e: Event, n: usize, alignments: [u8; 1024]) -> Seen {
+fn table(
+    out: &mut impl Write,
+    s: Seen,
+    e: Event,
+    n: usize,
+    alignments: [u8; 1024],
+) -> io::Result<Seen> {
     let tables = one_more(s.tables);
     let aligned = more(s.aligned, n);
-    print::text(b"T");
-    print::count(tables);
-    print::count(e.line as usize);
-    print::count(n);
-    print::text(b" ");
-    letters(alignments, s.aligned, aligned);
-    print::line_end();
-    Seen {
+    print::text(out, b"T")?;
+    print::count(out, tables)?;
+    print::count(out, e.line as usize)?;
+    print::count(out, n)?;
+    print::text(out, b" ")?;
+    letters(out, alignments, s.aligned, aligned)?;
+    print::line_end(out)?;
+    Ok(Seen {
         tables,
         aligned,
         letter: s.letter,
         line: s.line,
         offset: s.offset,
         length: s.length,
-    }
+    })
 }
 
 // The line of a cell: its letter, its line, and its text's offset and length.
-fn cell(s: Seen) {
+fn cell(out: &mut impl Write, s: Seen) -> io::Result<()> {
     if s.letter == 72 {
-        print::text(b"H");
+        print::text(out, b"H")?;
     } else {
-        print::text(b"B");
+        print::text(out, b"B")?;
     }
-    print::count(s.line as usize);
-    print::count(s.offset as usize);
-    print::count(s.length as usize);
-    print::line_end();
+    print::count(out, s.line as usize)?;
+    print::count(out, s.offset as usize)?;
+    print::count(out, s.length as usize)?;
+    print::line_end(out)
 }
 
 // Seen, with rows of another letter.
@@ -180,77 +190,80 @@ fn entered(s: Seen, e: Event) -> Seen {
 }
 
 // What is seen after an event is left. A cell that is left is listed.
-fn left(s: Seen, e: Event) -> Seen {
+fn left(out: &mut impl Write, s: Seen, e: Event) -> io::Result<Seen> {
     if e.name == Name::GfmTableCellText {
-        return celled(s, s.line, s.offset, distance(s.offset, e.index));
+        return Ok(celled(s, s.line, s.offset, distance(s.offset, e.index)));
     }
     if e.name == Name::GfmTableCell {
-        cell(s);
+        cell(out, s)?;
     }
-    s
+    Ok(s)
 }
 
 // What is seen after an event.
-fn step(s: Seen, e: Event) -> Seen {
+fn step(out: &mut impl Write, s: Seen, e: Event) -> io::Result<Seen> {
     if e.kind == 1 {
-        return entered(s, e);
+        return Ok(entered(s, e));
     }
     if e.kind == 2 {
-        return left(s, e);
+        return left(out, s, e);
     }
-    s
+    Ok(s)
 }
 
 // All tables, in sheet order.
-fn list(results: [Event; 1024], alignments: [u8; 1024]) {
+fn list(out: &mut impl Write, results: [Event; 1024], alignments: [u8; 1024]) -> io::Result<()> {
     let mut s = nothing();
     let mut i = 0;
     while i < 1024 {
         if enters(results[i], Name::GfmTable) {
-            s = table(s, results[i], columns(results, i), alignments);
+            s = table(out, s, results[i], columns(results, i), alignments)?;
         }
-        s = step(s, results[i]);
+        s = step(out, s, results[i])?;
         i += 1;
     }
+    Ok(())
 }
 
 // A refusal.
-fn refused(n: u8) {
-    print::text(b"refused ");
-    print::number(n as u64);
-    print::line_end();
+fn refused(out: &mut impl Write, n: u8) -> io::Result<()> {
+    print::text(out, b"refused ")?;
+    print::number(out, n as u64)?;
+    print::line_end(out)
 }
 
 // What is printed for a sheet.
-fn sheet_listed(text: &[u8]) {
+fn sheet_listed(out: &mut impl Write, text: &[u8]) -> io::Result<()> {
     let kinds = builtin();
     let r = read_small(text, &kinds, true);
     let answer = r.answer;
     let events = r.results;
     let aligned = r.alignments;
     match answer {
-        Sheet::Refused(n) => refused(n),
+        Sheet::Refused(n) => refused(out, n),
         Sheet::Accepted {
             tables,
             events: _,
             results: _,
             alignments: _,
         } => {
-            print::text(b"tables");
-            print::count(tables);
-            print::line_end();
-            list(events, aligned);
+            print::text(out, b"tables")?;
+            print::count(out, tables)?;
+            print::line_end(out)?;
+            list(out, events, aligned)
         }
     }
 }
 
 // Reads the sheet and lists it.
-pub fn run() {
+pub fn run(rt: &(impl Input + Print + Alloc)) -> io::Result<()> {
     let mut text = [0u8; 4097];
-    let n = io::read_full(libc::STDIN_FILENO, &mut text);
+    let n = fill(&mut rt.reader(), &mut text)?;
+    let mut out = BufWriter::new(rt.alloc(), io::writer(rt))?;
     if 4096 < n {
-        refused(1);
-        return;
+        refused(&mut out, 1)?;
+    } else {
+        sheet_listed(&mut out, &text[..n])?;
     }
-    sheet_listed(&text[..n]);
+    out.flush()
 }

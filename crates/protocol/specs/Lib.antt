@@ -2,3 +2,4 @@
 pub mod Words
 pub mod Kept
 pub mod Records
+pub mod Counts

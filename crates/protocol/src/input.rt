@@ -1,19 +1,34 @@
-// Standard input, a part at a time, at the front of a lent buffer.
-ghost use Rattle.std.specs.Prelude.{◌≡◌, length};
-ghost use Rattle.io.specs.Counts.{IsPrefixLen};
+// A text that is read, a part at a time, at the front of a lent buffer.
+ghost use Rattle.std.specs.Prelude.{◌≡◌, IfOk, length};
+ghost use Rattle.protocol.specs.Counts.{IsPrefixLen};
 ghost use Rattle.protocol.specs.Kept.{kept_count, kept_text};
 
-use libc::STDIN_FILENO;
+use std::io;
+use std::io::Read;
+
+// Reads until the buffer is full or the input ends, and tells how many bytes there are.
+pub fn fill(input: &mut impl Read, text: &mut [u8]) -> io::Result<usize>
+    ensures { IfOk result (λ n. IsPrefixLen n text.new) }
+{
+    more(input, text, 0)
+}
 
 // Reads on behind the first n bytes, until the buffer is full or the input ends, and tells how many bytes there are.
-pub fn more(text: &mut [u8], n: usize) -> usize
-    ensures { IsPrefixLen result text.new }
+pub fn more(input: &mut impl Read, text: &mut [u8], n: usize) -> io::Result<usize>
+    ensures { IfOk result (λ m. IsPrefixLen m text.new) }
 {
     if text.len() < n {
-        return 0;
+        return Ok(0);
     }
-    let read = io::read_full(STDIN_FILENO, &mut text[n..]);
-    n + read
+    let mut done = n;
+    while done < text.len() {
+        let read = input.read(&mut text[done..])?;
+        if read == 0 {
+            break;
+        }
+        done += read;
+    }
+    Ok(done)
 }
 
 // Moves the bytes from a place up to the n-th to the front, and tells how many they are.

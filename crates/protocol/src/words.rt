@@ -1,6 +1,6 @@
 // The words of a request. Behind an unreadable word every word is unreadable: the place given is the line's end.
 ghost use Rattle.std.specs.Prelude.{◌≡◌, ◌≤◌, length};
-ghost use Rattle.io.specs.Counts.{IsPrefixLen};
+ghost use Rattle.protocol.specs.Counts.{IsPrefixLen};
 ghost use Rattle.protocol.specs.Words.{digit_of, pair_of, next_word, is_hyphen};
 
 // Whether a number was readable, the number, or 0, and where the next word starts.

@@ -6,57 +6,66 @@ use protocol::input::{keep, more};
 use protocol::lists::events;
 use protocol::print;
 use protocol::words::{after, line_stop, number};
+use std::io;
+use std::io::{BufWriter, Read, Write};
 
 // The answer to one request, without its line end.
-fn answer(line: &[u8]) {
+fn answer(out: &mut impl Write, line: &[u8]) -> io::Result<()> {
     let index = number(line, after(line, b"align"));
     let slots = number(line, index.next);
     let read = events(line, slots.next, 256);
     if !slots.good || 256 < slots.value || read.next != line.len() {
-        print::text(b"?");
-        return;
+        return print::text(out, b"?");
     }
     let list = read.events;
     let r = align_small(list, read.count, index.value as usize, slots.value as usize);
     let answer = r.answer;
     let alignments = r.alignments;
-    print::aligned(answer);
-    print::alignments(alignments, slots.value as usize);
+    print::aligned(out, answer)?;
+    print::alignments(out, alignments, slots.value as usize)
 }
 
 // The answers to the requests that are whole, a line each, and where the line behind them starts.
-fn replay(text: &[u8]) -> usize {
+fn replay(out: &mut impl Write, text: &[u8]) -> io::Result<usize> {
     let mut at = 0;
     while at < text.len() {
         let end = line_stop(text, at);
         if end == text.len() {
             break;
         }
-        answer(&text[at..end]);
-        print::line_end();
+        answer(out, &text[at..end])?;
+        print::line_end(out)?;
         at = end + 1;
     }
-    at
+    Ok(at)
 }
 
 // Reads on behind the first n bytes, answers, and tells how many bytes are kept.
-fn part(text: &mut [u8], n: usize) -> usize {
-    let filled = more(text, n);
-    let at = replay(&text[..filled]);
-    keep(text, at, filled)
+fn part(
+    input: &mut impl Read,
+    out: &mut impl Write,
+    text: &mut [u8],
+    n: usize,
+) -> io::Result<usize> {
+    let filled = more(input, text, n)?;
+    let at = replay(out, &text[..filled])?;
+    Ok(keep(text, at, filled))
 }
 
 // The answers to all requests, in at most 64 parts.
-fn replay_parts(text: &mut [u8]) {
+fn replay_parts(input: &mut impl Read, out: &mut impl Write, text: &mut [u8]) -> io::Result<()> {
     let mut n = 0;
     let mut parts: usize = 0;
     while parts < 64 {
-        n = part(text, n);
+        n = part(input, out, text, n)?;
         parts += 1;
     }
+    Ok(())
 }
 
-fn main() {
+fn main(rt: HostRuntime) -> io::Result<()> {
     let mut text = [0u8; 65536];
-    replay_parts(&mut text);
+    let mut out = BufWriter::new(rt.alloc(), io::writer(&rt))?;
+    replay_parts(&mut rt.reader(), &mut out, &mut text)?;
+    out.flush()
 }

@@ -6,9 +6,17 @@ use protocol::input::{keep, more};
 use protocol::lists::{ReadEvents, ReadNumbers, events, numbers};
 use protocol::print;
 use protocol::words::{after, line_stop, number};
+use std::io;
+use std::io::{BufWriter, Read, Write};
 
 // The answer to a readable request.
-fn answer_read(slots: usize, list: ReadEvents, edits: ReadNumbers, pool: ReadEvents) {
+fn answer_read(
+    out: &mut impl Write,
+    slots: usize,
+    list: ReadEvents,
+    edits: ReadNumbers,
+    pool: ReadEvents,
+) -> io::Result<()> {
     let all = list.events;
     let five = edits.numbers;
     let others = pool.events;
@@ -24,9 +32,9 @@ fn answer_read(slots: usize, list: ReadEvents, edits: ReadNumbers, pool: ReadEve
     let answer = r.answer;
     let results = r.results;
     let left = r.edits;
-    print::edited(answer);
-    print::slots(results, slots);
-    print::numbers(left, edits.count);
+    print::edited(out, answer)?;
+    print::slots(out, results, slots)?;
+    print::numbers(out, left, edits.count)
 }
 
 // How many numbers n edits have, at most 255.
@@ -38,63 +46,68 @@ fn five_each(n: usize) -> usize {
 }
 
 // The answer to one request, without its line end.
-fn answer(line: &[u8]) {
+fn answer(out: &mut impl Write, line: &[u8]) -> io::Result<()> {
     let slots = number(line, after(line, b"edit"));
     let edit_count = number(line, slots.next);
     let list_count = number(line, edit_count.next);
     let pool_count = number(line, list_count.next);
     if !pool_count.good || 51 < edit_count.value || 256 < slots.value {
-        print::text(b"?");
-        return;
+        return print::text(out, b"?");
     }
     let wanted = five_each(edit_count.value as usize);
     let edits = numbers(line, pool_count.next, wanted);
     let list = events(line, edits.next, list_count.value as usize);
     let pool = events(line, list.next, pool_count.value as usize);
     if edits.count != wanted || list.count as u64 != list_count.value {
-        print::text(b"?");
-        return;
+        return print::text(out, b"?");
     }
     if pool.count as u64 != pool_count.value || pool.next != line.len() {
-        print::text(b"?");
-        return;
+        return print::text(out, b"?");
     }
-    answer_read(slots.value as usize, list, edits, pool);
+    answer_read(out, slots.value as usize, list, edits, pool)
 }
 
 // The answers to the requests that are whole, a line each, and where the line behind them starts.
-fn replay(text: &[u8]) -> usize {
+fn replay(out: &mut impl Write, text: &[u8]) -> io::Result<usize> {
     let mut at = 0;
     while at < text.len() {
         let end = line_stop(text, at);
         if end == text.len() {
             break;
         }
-        answer(&text[at..end]);
-        print::line_end();
+        answer(out, &text[at..end])?;
+        print::line_end(out)?;
         at = end + 1;
     }
-    at
+    Ok(at)
 }
 
 // Reads on behind the first n bytes, answers, and tells how many bytes are kept.
-fn part(text: &mut [u8], n: usize) -> usize {
-    let filled = more(text, n);
-    let at = replay(&text[..filled]);
-    keep(text, at, filled)
+fn part(
+    input: &mut impl Read,
+    out: &mut impl Write,
+    text: &mut [u8],
+    n: usize,
+) -> io::Result<usize> {
+    let filled = more(input, text, n)?;
+    let at = replay(out, &text[..filled])?;
+    Ok(keep(text, at, filled))
 }
 
 // The answers to all requests, in at most 64 parts.
-fn replay_parts(text: &mut [u8]) {
+fn replay_parts(input: &mut impl Read, out: &mut impl Write, text: &mut [u8]) -> io::Result<()> {
     let mut n = 0;
     let mut parts: usize = 0;
     while parts < 64 {
-        n = part(text, n);
+        n = part(input, out, text, n)?;
         parts += 1;
     }
+    Ok(())
 }
 
-fn main() {
+fn main(rt: HostRuntime) -> io::Result<()> {
     let mut text = [0u8; 65536];
-    replay_parts(&mut text);
+    let mut out = BufWriter::new(rt.alloc(), io::writer(&rt))?;
+    replay_parts(&mut rt.reader(), &mut out, &mut text)?;
+    out.flush()
 }

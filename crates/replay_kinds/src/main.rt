@@ -4,8 +4,11 @@
 
 ghost use Rattle.std.specs.Prelude.{◌≤◌};
 
+use protocol::input::fill;
 use protocol::print;
 use protocol::words::{after, bytes, line_stop, next_word, number, stop_at};
+use std::io;
+use std::io::{BufWriter, Write};
 use tokenizer::kinds::builtin;
 
 // The built-in table, and zeros behind it.
@@ -45,27 +48,38 @@ fn change(kinds: &mut [u8; 512], n: usize, changes: &[u8]) -> bool {
 }
 
 // The answer by the first n entries of a table. The words for the sheet start at a place.
-fn answer_with(line: &[u8], at: usize, kinds: [u8; 512], n: usize)
+fn answer_with(
+    out: &mut impl Write,
+    line: &[u8],
+    at: usize,
+    kinds: [u8; 512],
+    n: usize,
+) -> io::Result<()>
     requires { n ≤ 300 }
 {
-    sheet_protocol::answer(line, at, &kinds[..n]);
+    sheet_protocol::answer(out, line, at, &kinds[..n])
 }
 
 // The answer by the table of n entries with some changes. The words for the sheet stand behind the place where the changes end.
-fn answer_by(line: &[u8], stop: usize, n: usize, changes: &[u8])
+fn answer_by(
+    out: &mut impl Write,
+    line: &[u8],
+    stop: usize,
+    n: usize,
+    changes: &[u8],
+) -> io::Result<()>
     requires { n ≤ 300 }
 {
     let mut kinds = [0u8; 512];
     spread(&mut kinds);
     if change(&mut kinds, n, changes) {
-        answer_with(line, next_word(line, stop), kinds, n);
-        return;
+        return answer_with(out, line, next_word(line, stop), kinds, n);
     }
-    print::text(b"?");
+    print::text(out, b"?")
 }
 
 // The answer to one request, without its line end.
-fn answer(line: &[u8]) {
+fn answer(out: &mut impl Write, line: &[u8]) -> io::Result<()> {
     let entries = number(line, after(line, b"kinds"));
     let from = entries.next;
     let stop = stop_at(line, from, 32);
@@ -73,25 +87,27 @@ fn answer(line: &[u8]) {
     let read = bytes(&line[from..stop], 0, &mut changes);
     let length = read.count;
     if !read.good || 300 < entries.value {
-        print::text(b"?");
-        return;
+        return print::text(out, b"?");
     }
-    answer_by(line, stop, entries.value as usize, &changes[..length]);
+    answer_by(out, line, stop, entries.value as usize, &changes[..length])
 }
 
 // The answers to all requests, a line each.
-fn replay(text: &[u8]) {
+fn replay(out: &mut impl Write, text: &[u8]) -> io::Result<()> {
     let mut at = 0;
     while at < text.len() {
         let end = line_stop(text, at);
-        answer(&text[at..end]);
-        print::line_end();
+        answer(out, &text[at..end])?;
+        print::line_end(out)?;
         at = end + 1;
     }
+    Ok(())
 }
 
-fn main() {
+fn main(rt: HostRuntime) -> io::Result<()> {
     let mut text = [0u8; 32768];
-    let n = io::read_full(libc::STDIN_FILENO, &mut text);
-    replay(&text[..n]);
+    let n = fill(&mut rt.reader(), &mut text)?;
+    let mut out = BufWriter::new(rt.alloc(), io::writer(&rt))?;
+    replay(&mut out, &text[..n])?;
+    out.flush()
 }

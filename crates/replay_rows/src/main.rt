@@ -2,11 +2,14 @@
 #![tactic(auto)]
 
 use buffers::row_small;
+use protocol::input::fill;
 use protocol::print;
 use protocol::words::{after, bytes, flag, line_stop, number};
+use std::io;
+use std::io::{BufWriter, Write};
 
 // The answer to one request, without its line end.
-fn answer(line: &[u8]) {
+fn answer(out: &mut impl Write, line: &[u8]) -> io::Result<()> {
     let offset = number(line, after(line, b"row"));
     let lazy = flag(line, offset.next);
     let slots = number(line, lazy.next);
@@ -14,8 +17,7 @@ fn answer(line: &[u8]) {
     let read = bytes(line, slots.next, &mut sheet);
     let n = read.count;
     if !read.good || 256 < slots.value {
-        print::text(b"?");
-        return;
+        return print::text(out, b"?");
     }
     let r = row_small(
         &sheet[..n],
@@ -25,23 +27,26 @@ fn answer(line: &[u8]) {
     );
     let answer = r.answer;
     let raw = r.raw;
-    print::row(answer);
-    print::slots(raw, slots.value as usize);
+    print::row(out, answer)?;
+    print::slots(out, raw, slots.value as usize)
 }
 
 // The answers to all requests, a line each.
-fn replay(text: &[u8]) {
+fn replay(out: &mut impl Write, text: &[u8]) -> io::Result<()> {
     let mut at = 0;
     while at < text.len() {
         let end = line_stop(text, at);
-        answer(&text[at..end]);
-        print::line_end();
+        answer(out, &text[at..end])?;
+        print::line_end(out)?;
         at = end + 1;
     }
+    Ok(())
 }
 
-fn main() {
+fn main(rt: HostRuntime) -> io::Result<()> {
     let mut text = [0u8; 131072];
-    let n = io::read_full(libc::STDIN_FILENO, &mut text);
-    replay(&text[..n]);
+    let n = fill(&mut rt.reader(), &mut text)?;
+    let mut out = BufWriter::new(rt.alloc(), io::writer(&rt))?;
+    replay(&mut out, &text[..n])?;
+    out.flush()
 }

@@ -1,6 +1,8 @@
 // Lists the tables of the sheet on standard input, and where the text of each cell stands.
 #![tactic(auto)]
 
-fn main() {
-    listing::run();
+use std::io;
+
+fn main(rt: HostRuntime) -> io::Result<()> {
+    listing::run(&rt)
 }

@@ -1,6 +1,8 @@
 // Lists the sheet of the image pool, as `roster` does.
 #![tactic(auto)]
 
-fn main() {
-    listing::run();
+use std::io;
+
+fn main(rt: HostRuntime) -> io::Result<()> {
+    listing::run(&rt)
 }

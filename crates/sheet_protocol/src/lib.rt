@@ -1,4 +1,4 @@
-// A sheet's answer, written to standard output in the line protocol: its numbers, and its groups of slots, of arrays of 1,024.
+// A sheet's answer, written in the line protocol: its numbers, and its groups of slots, of arrays of 1,024.
 #![tactic(auto)]
 
 ghost use Rattle.std.specs.Prelude.{◌≤◌};
@@ -7,14 +7,16 @@ use protocol::print;
 use protocol::words::{bytes, flag, number};
 use sheet::calls::Sheet;
 use sheet_buffers::read_parts;
+use std::io;
+use std::io::Write;
 use tokenizer::event::Event;
 
 // A sheet's number, tables, raw events, result events and alignments.
-pub fn sheet(s: Sheet) {
+pub fn sheet(out: &mut impl Write, s: Sheet) -> io::Result<()> {
     match s {
         Sheet::Refused(k) => {
-            print::number(k as u64);
-            print::text(b" 0 0 0 0");
+            print::number(out, k as u64)?;
+            print::text(out, b" 0 0 0 0")
         }
         Sheet::Accepted {
             tables,
@@ -22,11 +24,11 @@ pub fn sheet(s: Sheet) {
             results,
             alignments,
         } => {
-            print::number(0);
-            print::count(tables);
-            print::count(events);
-            print::count(results);
-            print::count(alignments);
+            print::number(out, 0)?;
+            print::count(out, tables)?;
+            print::count(out, events)?;
+            print::count(out, results)?;
+            print::count(out, alignments)
         }
     }
 }
@@ -49,23 +51,24 @@ fn used(list: [Event; 1024], n: usize) -> usize
 }
 
 // The first m events.
-fn events(list: [Event; 1024], m: usize)
+fn events(out: &mut impl Write, list: [Event; 1024], m: usize) -> io::Result<()>
     requires { m ≤ 1024 }
 {
     let mut i = 0;
     while i < m {
-        print::event(list[i]);
+        print::event(out, list[i])?;
         i += 1;
     }
+    Ok(())
 }
 
 // The first n slots, at most 1,024: each up to the last that is not blank, and the number of those behind.
-pub fn slots(list: [Event; 1024], n: usize) {
+pub fn slots(out: &mut impl Write, list: [Event; 1024], n: usize) -> io::Result<()> {
     let m = used(list, n);
-    print::text(b" |");
-    events(list, m);
-    print::text(b" +");
-    print::number((n - m) as u64);
+    print::text(out, b" |")?;
+    events(out, list, m)?;
+    print::text(out, b" +")?;
+    print::number(out, (n - m) as u64)
 }
 
 // How many of the first n numbers stand up to the last that is not 0; none where n is above 1,024.
@@ -86,40 +89,49 @@ fn used_numbers(list: [u8; 1024], n: usize) -> usize
 }
 
 // The first m numbers.
-fn numbers(list: [u8; 1024], m: usize)
+fn numbers(out: &mut impl Write, list: [u8; 1024], m: usize) -> io::Result<()>
     requires { m ≤ 1024 }
 {
     let mut i = 0;
     while i < m {
-        print::count(list[i] as usize);
+        print::count(out, list[i] as usize)?;
         i += 1;
     }
+    Ok(())
 }
 
 // The first n alignment slots, likewise.
-pub fn alignments(list: [u8; 1024], n: usize) {
+pub fn alignments(out: &mut impl Write, list: [u8; 1024], n: usize) -> io::Result<()> {
     let m = used_numbers(list, n);
-    print::text(b" |");
-    numbers(list, m);
-    print::text(b" +");
-    print::number((n - m) as u64);
+    print::text(out, b" |")?;
+    numbers(out, list, m)?;
+    print::text(out, b" +")?;
+    print::number(out, (n - m) as u64)
 }
 
 // The answer for a sheet that is read by a table of kinds, with n raw, m result and k alignment slots.
-fn reading(text: &[u8], kinds: &[u8], code_indented: bool, n: usize, m: usize, k: usize) {
+fn reading(
+    out: &mut impl Write,
+    text: &[u8],
+    kinds: &[u8],
+    code_indented: bool,
+    n: usize,
+    m: usize,
+    k: usize,
+) -> io::Result<()> {
     let r = read_parts(text, kinds, code_indented, n, m, k);
     let answer = r.answer;
     let raw = r.raw;
     let results = r.results;
     let aligned = r.alignments;
-    sheet(answer);
-    slots(raw, n);
-    slots(results, m);
-    alignments(aligned, k);
+    sheet(out, answer)?;
+    slots(out, raw, n)?;
+    slots(out, results, m)?;
+    alignments(out, aligned, k)
 }
 
 // The answer to a request whose words for the sheet start at a place. At most 1,024 slots of each kind are lent.
-pub fn answer(line: &[u8], at: usize, kinds: &[u8]) {
+pub fn answer(out: &mut impl Write, line: &[u8], at: usize, kinds: &[u8]) -> io::Result<()> {
     let code_indented = flag(line, at);
     let n = number(line, code_indented.next);
     let m = number(line, n.next);
@@ -128,15 +140,15 @@ pub fn answer(line: &[u8], at: usize, kinds: &[u8]) {
     let read = bytes(line, k.next, &mut text);
     let length = read.count;
     if !read.good || 1024 < n.value || 1024 < m.value || 1024 < k.value {
-        print::text(b"?");
-        return;
+        return print::text(out, b"?");
     }
     reading(
+        out,
         &text[..length],
         kinds,
         code_indented.value,
         n.value as usize,
         m.value as usize,
         k.value as usize,
-    );
+    )
 }

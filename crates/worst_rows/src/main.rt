@@ -8,6 +8,8 @@ ghost use Rattle.std.specs.Prelude.{◌≤◌};
 use buffers::{head_long, row_long};
 use gfm_table::calls::{Head, Row};
 use protocol::print;
+use std::io;
+use std::io::{BufWriter, Write};
 
 // The k-th of two bytes in turn.
 fn turn(k: usize, a: u8, b: u8) -> u8 {
@@ -57,76 +59,76 @@ fn before(n: usize) -> usize {
 }
 
 // A head's numbers and its last event, with n slots.
-fn head_line(sheet: &[u8], n: usize) {
+fn head_line(out: &mut impl Write, sheet: &[u8], n: usize) -> io::Result<()> {
     let first = head_long(sheet, 0, true, false, false, n, 0);
     let answer = first.answer;
     let last = head_long(sheet, 0, true, false, false, n, head_last(answer));
     let event = last.event;
-    print::head(answer);
-    print::event(event);
-    print::line_end();
+    print::head(out, answer)?;
+    print::event(out, event)?;
+    print::line_end(out)
 }
 
 // A row's numbers and its last event, with n slots.
-fn row_line(sheet: &[u8], n: usize) {
+fn row_line(out: &mut impl Write, sheet: &[u8], n: usize) -> io::Result<()> {
     let first = row_long(sheet, 0, false, n, 0);
     let answer = first.answer;
     let last = row_long(sheet, 0, false, n, row_last(answer));
     let event = last.event;
-    print::row(answer);
-    print::event(event);
-    print::line_end();
+    print::row(out, answer)?;
+    print::event(out, event)?;
+    print::line_end(out)
 }
 
 // A head, with many slots and with none.
-fn heads(sheet: &[u8; 65536]) {
-    head_line(sheet, 131080);
-    head_line(sheet, 0);
+fn heads(out: &mut impl Write, sheet: &[u8; 65536]) -> io::Result<()> {
+    head_line(out, sheet, 131080)?;
+    head_line(out, sheet, 0)
 }
 
 // A row, with many slots and with none.
-fn rows(sheet: &[u8; 65536]) {
-    row_line(sheet, 131080);
-    row_line(sheet, 0);
+fn rows(out: &mut impl Write, sheet: &[u8; 65536]) -> io::Result<()> {
+    row_line(out, sheet, 131080)?;
+    row_line(out, sheet, 0)
 }
 
 // The line as a head line.
-fn as_head(a: u8, b: u8) {
+fn as_head(out: &mut impl Write, a: u8, b: u8) -> io::Result<()> {
     let mut sheet = [0u8; 65536];
     stripe(&mut sheet, 0, 65533, a, b);
     sheet[65533] = 10;
     sheet[65534] = 45;
     sheet[65535] = 124;
-    heads(&sheet);
+    heads(out, &sheet)
 }
 
 // The line as a delimiter row.
-fn as_delimiter(a: u8, b: u8) {
+fn as_delimiter(out: &mut impl Write, a: u8, b: u8) -> io::Result<()> {
     let mut sheet = [0u8; 65536];
     sheet[0] = 97;
     sheet[1] = 124;
     sheet[2] = 98;
     sheet[3] = 10;
     stripe(&mut sheet, 4, 65536, a, b);
-    heads(&sheet);
+    heads(out, &sheet)
 }
 
 // The line as a body row.
-fn as_row(a: u8, b: u8) {
+fn as_row(out: &mut impl Write, a: u8, b: u8) -> io::Result<()> {
     let mut sheet = [0u8; 65536];
     stripe(&mut sheet, 0, 65536, a, b);
-    rows(&sheet);
+    rows(out, &sheet)
 }
 
 // All three.
-fn worst(a: u8, b: u8) {
-    as_head(a, b);
-    as_delimiter(a, b);
-    as_row(a, b);
+fn worst(out: &mut impl Write, a: u8, b: u8) -> io::Result<()> {
+    as_head(out, a, b)?;
+    as_delimiter(out, a, b)?;
+    as_row(out, a, b)
 }
 
 // As many columns as fit, in both lines of a head.
-fn columns() {
+fn columns(out: &mut impl Write) -> io::Result<()> {
     let mut sheet = [0u8; 65536];
     stripe(&mut sheet, 0, 32766, 97, 124);
     sheet[32766] = 13;
@@ -134,26 +136,28 @@ fn columns() {
     stripe(&mut sheet, 32768, 65534, 45, 124);
     sheet[65534] = 32;
     sheet[65535] = 32;
-    heads(&sheet);
+    heads(out, &sheet)
 }
 
 // One byte too many.
-fn too_long() {
+fn too_long(out: &mut impl Write) -> io::Result<()> {
     let sheet = [124u8; 65537];
-    head_line(&sheet, 131080);
-    row_line(&sheet, 131080);
+    head_line(out, &sheet, 131080)?;
+    row_line(out, &sheet, 131080)
 }
 
 // In turn: `|`, `a|`, `a`, backslashes, `a` and a space, tabs, `-|`, `-`.
-fn main() {
-    worst(124, 124);
-    worst(97, 124);
-    worst(97, 97);
-    worst(92, 92);
-    worst(97, 32);
-    worst(9, 9);
-    worst(45, 124);
-    worst(45, 45);
-    columns();
-    too_long();
+fn main(rt: HostRuntime) -> io::Result<()> {
+    let mut out = BufWriter::new(rt.alloc(), io::writer(&rt))?;
+    worst(&mut out, 124, 124)?;
+    worst(&mut out, 97, 124)?;
+    worst(&mut out, 97, 97)?;
+    worst(&mut out, 92, 92)?;
+    worst(&mut out, 97, 32)?;
+    worst(&mut out, 9, 9)?;
+    worst(&mut out, 45, 124)?;
+    worst(&mut out, 45, 45)?;
+    columns(&mut out)?;
+    too_long(&mut out)?;
+    out.flush()
 }

@@ -8,6 +8,8 @@ use protocol::print;
 use sheet::calls::Sheet;
 use sheet_long::read_long;
 use sheet_protocol::sheet;
+use std::io;
+use std::io::{BufWriter, Write};
 
 // The byte at a place of a pattern.
 fn byte_of(pattern: &[u8], j: usize) -> u8 {
@@ -93,102 +95,119 @@ fn last_result(s: Sheet) -> usize {
 }
 
 // The answer's numbers and the last events, with n raw, m result and k alignment slots.
-fn line(text: &[u8], n: usize, m: usize, k: usize) {
+fn line(out: &mut impl Write, text: &[u8], n: usize, m: usize, k: usize) -> io::Result<()> {
     let first = read_long(text, true, n, m, k, 0, 0);
     let answer = first.answer;
     let last = read_long(text, true, n, m, k, last_raw(answer), last_result(answer));
     let event = last.event;
     let result = last.result;
-    sheet(answer);
-    print::event(event);
-    print::event(result);
-    print::line_end();
+    sheet(out, answer)?;
+    print::event(out, event)?;
+    print::event(out, result)?;
+    print::line_end(out)
 }
 
 // A sheet with many slots, and with none.
-fn lines(text: &[u8; 65536]) {
-    line(text, 98304, 196608, 10240);
-    line(text, 0, 0, 0);
+fn lines(out: &mut impl Write, text: &[u8; 65536]) -> io::Result<()> {
+    line(out, text, 98304, 196608, 10240)?;
+    line(out, text, 0, 0, 0)
 }
 
 // A pattern over and over, up to a place, then line ends.
-fn over(to: usize, pattern: &[u8])
+fn over(out: &mut impl Write, to: usize, pattern: &[u8]) -> io::Result<()>
     requires { to ≤ 65536 }
 {
     let mut text = [10u8; 65536];
     fill(&mut text, 0, to, pattern);
-    lines(&text);
+    lines(out, &text)
 }
 
 // A pattern over and over as the body of a table, up to a place, then line ends.
-fn under(to: usize, pattern: &[u8])
+fn under(out: &mut impl Write, to: usize, pattern: &[u8]) -> io::Result<()>
     requires { to ≤ 65536 }
 {
     let mut text = [10u8; 65536];
     fill(&mut text, 0, 10, b"a|b\n:-|-:\n");
     fill(&mut text, 10, to, pattern);
-    lines(&text);
+    lines(out, &text)
 }
 
 // A table of 10,000 columns.
-fn columns() {
+fn columns(out: &mut impl Write) -> io::Result<()> {
     let mut text = [10u8; 65536];
     fill(&mut text, 0, 20000, b"a|");
     fill(&mut text, 20001, 40001, b"-|");
-    lines(&text);
+    lines(out, &text)
 }
 
 // Pseudo-random bytes up to a place, then line ends.
-fn scattered(to: usize, pattern: &[u8])
+fn scattered(out: &mut impl Write, to: usize, pattern: &[u8]) -> io::Result<()>
     requires { to ≤ 65536 }
 {
     let mut text = [10u8; 65536];
     scatter(&mut text, to, pattern);
-    lines(&text);
+    lines(out, &text)
 }
 
 // A sheet that needs 14,000 raw, 24,000 result and 1,000 alignment slots: one too few of each, and as many as it needs.
-fn short_lines(text: &[u8; 65536]) {
-    line(text, 14000, 23999, 1000);
-    line(text, 14000, 24000, 999);
-    line(text, 13999, 24000, 1000);
-    line(text, 14000, 24000, 1000);
+fn short_lines(out: &mut impl Write, text: &[u8; 65536]) -> io::Result<()> {
+    line(out, text, 14000, 23999, 1000)?;
+    line(out, text, 14000, 24000, 999)?;
+    line(out, text, 13999, 24000, 1000)?;
+    line(out, text, 14000, 24000, 1000)
 }
 
 // A thousand tables.
-fn lacking() {
+fn lacking(out: &mut impl Write) -> io::Result<()> {
     let mut text = [10u8; 65536];
     fill(&mut text, 0, 6000, b"a\n:-\n\n");
-    short_lines(&text);
+    short_lines(out, &text)
 }
 
 // One byte too many.
-fn too_long() {
+fn too_long(out: &mut impl Write) -> io::Result<()> {
     let text = [124u8; 65537];
-    line(&text, 98304, 196608, 10240);
+    line(out, &text, 98304, 196608, 10240)
 }
 
-fn main() {
-    over(65536, b"|");
-    over(65536, b"a|");
-    over(65536, b"a");
-    over(65536, b"\\");
-    over(65536, b"\t");
-    over(65536, b"a\n");
-    over(65536, b"a\n:-\n\n");
-    over(42000, b"a\n:-\n\n");
-    under(65536, b"|");
-    under(40000, b"|");
-    under(65536, b"a");
-    under(65536, b"\\");
-    under(65536, b"\t");
-    under(65536, b"a\n");
-    under(30000, b"a\n");
-    columns();
-    scattered(65536, b"|-:a \\\t\n");
-    scattered(32768, b"|-:a \\\t\n");
-    scattered(65536, b"|-::-|\n\n");
-    scattered(32768, b"|-::-|\n\n");
-    lacking();
-    too_long();
+// Patterns over and over.
+fn all_over(out: &mut impl Write) -> io::Result<()> {
+    over(out, 65536, b"|")?;
+    over(out, 65536, b"a|")?;
+    over(out, 65536, b"a")?;
+    over(out, 65536, b"\\")?;
+    over(out, 65536, b"\t")?;
+    over(out, 65536, b"a\n")?;
+    over(out, 65536, b"a\n:-\n\n")?;
+    over(out, 42000, b"a\n:-\n\n")
+}
+
+// The same as the bodies of tables.
+fn all_under(out: &mut impl Write) -> io::Result<()> {
+    under(out, 65536, b"|")?;
+    under(out, 40000, b"|")?;
+    under(out, 65536, b"a")?;
+    under(out, 65536, b"\\")?;
+    under(out, 65536, b"\t")?;
+    under(out, 65536, b"a\n")?;
+    under(out, 30000, b"a\n")
+}
+
+// The other sheets.
+fn others(out: &mut impl Write) -> io::Result<()> {
+    columns(out)?;
+    scattered(out, 65536, b"|-:a \\\t\n")?;
+    scattered(out, 32768, b"|-:a \\\t\n")?;
+    scattered(out, 65536, b"|-::-|\n\n")?;
+    scattered(out, 32768, b"|-::-|\n\n")?;
+    lacking(out)?;
+    too_long(out)
+}
+
+fn main(rt: HostRuntime) -> io::Result<()> {
+    let mut out = BufWriter::new(rt.alloc(), io::writer(&rt))?;
+    all_over(&mut out)?;
+    all_under(&mut out)?;
+    others(&mut out)?;
+    out.flush()
 }

@@ -1,3 +1,0 @@
--- What the proofs of this crate use.
-pub mod Types
-pub mod Fronts
