@@ -108,5 +108,13 @@ pub extern "C" fn poolsheet_sheet(
         × ((alignments.new ≡ sheet_aligned sheet.now kinds.now code_indented (length raw.old) (length results.old) (length alignments.old))
         × (counts.new ≡ counts_of_sheet (sheet_of sheet.now kinds.now code_indented (length raw.old) (length results.old) (length alignments.old)))))) }
 {
-    poolsheet::poolsheet_sheet(sheet, kinds, code_indented, raw, results, alignments, counts)
+    poolsheet::poolsheet_sheet(
+        sheet,
+        kinds,
+        code_indented,
+        raw,
+        results,
+        alignments,
+        counts,
+    )
 }
