@@ -17,7 +17,7 @@ use Rattle.edit_map.specs.declared.infer_step.Stage.TheVariants.{Opening, Seekin
 use Rattle.edit_map.specs.declared.infer_step.Aligning.{Aligning}
 use Rattle.edit_map.specs.Base.{plus_of, most}
 use Rattle.edit_map.specs.Align.{is_entry, is_exit, is_marker, front, more, outside, inside, aligned, row_alignments, after_entry, table_alignments}
-use Rattle.edit_map.specs.AlignSteps.{still, gives, value_step, outside_step, align_in, align_step, start_at, fresh, is_found, settled, stops, scan_all, scan_of, aligns_from}
+use Rattle.edit_map.specs.AlignSteps.{still, gives, value_step, outside_step, align_in, align_step, start_at, fresh, is_found, settled, scan_all, scan_of, aligns_from}
 use Rattle.edit_map.proofs.Steps.{plus_fits}
 
 -- the step of a stage that is known

@@ -32,7 +32,7 @@ use Rattle.edit_map.specs.Answers.{resolve_answer, resolve_slots, aligned_of, al
 use Rattle.edit_map.specs.Verdicts.{stream_of, judge_of, again_of, told_of}
 use Rattle.edit_map.proofs.Steps.{gave-is, as_many, finished, Resolves}
 use Rattle.edit_map.proofs.Resolving.{resolve_stream}
-use Rattle.edit_map.proofs.Aligns.{align_given, answer, aligns, counted, zeroed, fills}
+use Rattle.edit_map.proofs.Aligns.{align_given, aligns, counted, zeroed, fills}
 
 -- ## Resolve
 

@@ -20,7 +20,7 @@ use Rattle.edit_map.specs.Tables.{named, is_text, is_solid, any_solid, any_text,
 use Rattle.edit_map.specs.Cells.{text_ahead, later, last_ahead}
 use Rattle.edit_map.specs.Base.{is_row_name, is_text_name}
 use Rattle.edit_map.specs.Turns.{cell_name, value_name, value_phase, plain, given, piece_turn}
-use Rattle.edit_map.proofs.Stream.{turn_at, ahead_of, solid_of, onward, first, rest}
+use Rattle.edit_map.proofs.Stream.{turn_at, ahead_of, solid_of, onward}
 
 -- the stream gives some records, and goes on from another mode and place
 pub data Gives : Mode → List Event → List Event → Mode → List Event → Type 0 where

@@ -5,9 +5,6 @@ pub mod EditMoves
 pub mod EditSettling
 pub mod EditResult
 pub mod EditOrdered
-pub mod EditTold
-pub mod EditTypes
-pub mod Types
 pub mod Stream
 pub mod Gives
 pub mod Cells
@@ -18,7 +15,6 @@ pub mod Parse
 pub mod RawRows
 pub mod CellTurns
 pub mod CellRows
-pub mod CellTypes
 pub mod Aligns
 pub mod Resolving
 pub mod Calls

@@ -3,16 +3,16 @@
 use Prim.Native.Nat.{ℕ, ◌≤◌}
 use mathlib.Core.Path.{◌≡◌, refl, sym, ap, ◌∙◌, subst}
 use mathlib.Core.List.{List, [], ◌∷◌, ◌++◌, append_assoc}
-use mathlib.Core.Bool.{Bool, true, false, cond, ◌||◌, ◌&&◌, true≢false}
+use mathlib.Core.Bool.{Bool, true, false, cond, ◌||◌, ◌&&◌}
 use lib.Dec.{eqb, leb}
 use lib.ListN.{length}
-use borrow.Author.Tests.{eqb-true, eq-eqb}
+use borrow.Author.Tests.{eqb-true}
 use Rattle.tokenizer.specs.declared.event.Event.{Event}
 use Rattle.tokenizer.specs.Events.{SpaceOrTab, LineEnding, Data, GfmTableRow, GfmTableHead, GfmTableCellDivider, GfmTableDelimiterRow, GfmTableDelimiterMarker, GfmTableDelimiterFiller}
 use Rattle.gfm_table.specs.Rows.{Passed, Row, both, all_both, raw_row}
 use Rattle.edit_map.specs.Base.{most, is_row_name}
-use Rattle.edit_map.specs.Tables.{BodyRow, Table, raw_body, raw_table, raw_tables, resolved_tables}
-use Rattle.edit_map.specs.Raw.{enters, leaves, row_piece, delimiter_piece, IsPiece, ArePieces, IsRow, IsLineEnd, AreRows, IsTable, AreTables, Parsed}
+use Rattle.edit_map.specs.Tables.{BodyRow, Table, raw_body, raw_table, raw_tables}
+use Rattle.edit_map.specs.Raw.{enters, leaves, row_piece, delimiter_piece, IsPiece, ArePieces, IsRow, IsLineEnd, AreRows, IsTable, AreTables}
 use Rattle.edit_map.specs.Accept.{accepts}
 use Rattle.edit_map.specs.TablesOf.{Behind, exit_of, row_exit, head_exit, piece_entry, row_entry, line_entry, head_entry, entered, left, behind, tables_of, resolved_list}
 use Rattle.edit_map.proofs.Parse.{parsed}

@@ -2,25 +2,23 @@
 -- Assumes nothing.
 use Prim.Native.Nat.{ℕ, zero, suc, ◌+◌, ◌-◌, ◌<◌, ◌≤◌}
 use mathlib.Core.Path.{◌≡◌, refl, sym, ap, ◌∙◌, subst}
-use mathlib.Core.List.{List, [], ◌∷◌, ◌++◌, append_assoc, append-nil}
+use mathlib.Core.List.{List, [], ◌∷◌, ◌++◌, append_assoc}
 use mathlib.Core.Bool.{Bool, true, false, cond, ◌||◌, ◌&&◌, not, true≢false}
-use mathlib.Core.Option as option
-use lib.Dec.{eqb, ltb, eqb-suc-zero}
+use lib.Dec.{eqb, ltb}
 use lib.ListN.{length, drop}
 use lib.Seq.{drop-drop}
 use native.Mathlib.Omega.{arith}
 use native.Mathlib.Numerals.{add-one}
 use borrow.Author.Tests.{ne_eqb, lt-ltb, le-ltb}
-use Rattle.tokenizer.specs.declared.event.Point.{Point}
 use Rattle.tokenizer.specs.declared.event.Event.{Event}
 use Rattle.tokenizer.specs.Slots.{event_at}
 use Rattle.tokenizer.specs.Events.{GfmTableCellDivider, enter, leave, linked, point_of}
 use Rattle.gfm_table.specs.Rows.{Passed, all_both}
-use Rattle.edit_map.specs.Tables.{named, is_text, is_solid, any_solid, any_text, cells, first_cell, other_cells, before, last_text, after_text, upto_text, row_inner, delimiter_inner, first_point, boundary, cell_events}
+use Rattle.edit_map.specs.Tables.{named, is_text, is_solid, any_solid, any_text, cells, first_cell, other_cells, before, last_text, after_text, upto_text, row_inner, delimiter_inner, boundary, cell_events}
 use Rattle.edit_map.specs.RustEdits.{Deed, add, link, Span, if, group_name, value_name, enter_at, leave_at, flush_text, flush_value, flush_cell}
 use Rattle.edit_map.proofs.Gives.{all_after, none_last, some-cell}
 use Rattle.edit_map.proofs.RustMade.{Makes, copy, adds, removes, links, then, moved}
-use Rattle.edit_map.proofs.RustLoop.{Piece, OnePiece, Pieces, text_at, touch, fresh, spans_of, past, flush, flushes, leaves}
+use Rattle.edit_map.proofs.RustLoop.{OnePiece, Pieces, text_at, touch, fresh, spans_of, past, flush, flushes, leaves}
 use Rattle.edit_order.proofs.Bools.{and_false}
 
 -- ## The cells of a row as spans

@@ -1,7 +1,7 @@
 -- What the Rust's loop does in a row: it flushes one cell after the other.
 -- Assumes nothing.
-use Prim.Native.Nat.{ℕ, zero, suc, ◌<◌}
-use mathlib.Core.Path.{◌≡◌, refl, sym, ap, ◌∙◌, subst}
+use Prim.Native.Nat.{ℕ, suc, ◌<◌}
+use mathlib.Core.Path.{◌≡◌, refl, sym, ap, ◌∙◌}
 use mathlib.Core.List.{List, [], ◌∷◌, ◌++◌, append_assoc, append-nil}
 use mathlib.Core.Bool.{Bool, true, false, cond, ◌||◌, ◌&&◌, not}
 use mathlib.Core.Option.{some}
@@ -10,11 +10,11 @@ use lib.Dec.{eqb, eqb-suc-zero}
 use native.Mathlib.Omega.{arith}
 use borrow.Author.Tests.{ne_eqb}
 use Rattle.tokenizer.specs.declared.event.Event.{Event}
-use Rattle.tokenizer.specs.Events.{GfmTableHead, GfmTableCellDivider, SpaceOrTab}
+use Rattle.tokenizer.specs.Events.{GfmTableHead, GfmTableCellDivider}
 use Rattle.gfm_table.specs.Rows.{Passed, all_both}
-use Rattle.edit_map.specs.Base.{is_row_name, is_text_name}
-use Rattle.edit_map.specs.Tables.{named, is_text, is_solid, any_solid, cells, first_cell, other_cells, before}
-use Rattle.edit_map.specs.RustEdits.{Deed, add, link, Span, no_span, Loop, in_cells, Did, if, group_name, enter_at, leave_at, flush_value, flush_cell, enter_text, enter_divider, leave_text, leave_row, stays, turn, deeds_from}
+use Rattle.edit_map.specs.Base.{is_row_name}
+use Rattle.edit_map.specs.Tables.{named, is_text, is_solid, any_solid}
+use Rattle.edit_map.specs.RustEdits.{Deed, add, Span, no_span, Loop, Did, if, group_name, enter_at, leave_at, flush_value, flush_cell, enter_text, enter_divider, leave_text, leave_row, stays, turn, deeds_from}
 use Rattle.edit_map.proofs.Gives.{Tests}
 use Rattle.edit_order.proofs.Bools.{and_false, or_false, or_true}
 

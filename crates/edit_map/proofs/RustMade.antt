@@ -3,7 +3,7 @@
 use Prim.Native.Nat.{ℕ, zero, suc, ◌+◌, ◌-◌, ◌≤◌, ◌<◌}
 use mathlib.Core.Path.{◌≡◌, refl, sym, ap, ◌∙◌, subst}
 use mathlib.Core.List.{List, [], ◌∷◌, ◌++◌, append_assoc, append-nil}
-use mathlib.Core.Bool.{Bool, true, false, cond, ◌||◌}
+use mathlib.Core.Bool.{Bool, true, false, cond}
 use lib.Dec.{eqb, eqb-suc-zero}
 use lib.ListN.{length, take, drop}
 use lib.Seq.{drop-drop}
@@ -13,7 +13,7 @@ use borrow.Author.Tests.{eq-eqb, ne_eqb}
 use Rattle.tokenizer.specs.declared.event.Event.{Event}
 use Rattle.tokenizer.specs.Events.{linked}
 use Rattle.edit_order.specs.declared.edit_slots.Edit.{Edit}
-use Rattle.edit_order.specs.Edits.{here, removed, addition, added, removed_at, added_at, edited}
+use Rattle.edit_order.specs.Edits.{here, removed, added, removed_at, edited}
 use Rattle.edit_map.specs.RustEdits.{Deed, add, link, pool_of, edits_from, is_linked, link_all}
 
 -- from the position p, the deeds ds and the events xs on, some events are made, up to another position
@@ -57,10 +57,10 @@ late {p} (adds m) = Late.adds {i = p} (omega arith) (late m)
 late {p} (removes gone m) = Late.adds {i = p} (omega arith) (later {q = p} (omega arith) (late m))
 late {p} (links m) = Late.links {i = p} (omega arith) (later {q = p} (omega arith) (late m))
 
-not_here : (n : ℕ) {p i : ℕ} {ds : List Deed} → Late p ds → i < p → here i (edits_from n ds) ≡ []
+not_here : {p i : ℕ} {ds : List Deed} (n : ℕ) → Late p ds → i < p → here i (edits_from n ds) ≡ []
 unfolding here edits_from
 not_here n Late.none h = refl
-not_here n {p} {i} (Late.adds {i = j} {new = new} l r) h = rw (ne_eqb j i (λ e. omega arith)) (not_here (n + length new) r h)
+not_here {p} {i} n (Late.adds {i = j} {new = new} l r) h = rw (ne_eqb j i (λ e. omega arith)) (not_here (n + length new) r h)
 not_here n (Late.links l r) h = not_here n r h
 
 not_linked : {p i : ℕ} {ds : List Deed} → Late p ds → i < p → is_linked i ds ≡ false
@@ -163,7 +163,7 @@ module _ (pool : List Event) where
       at_p = cond (eqb p p) (e ∷ here p left) (here p left)
 
       at_p_is : at_p ≡ e ∷ []
-      at_p_is = rw (eq-eqb p p refl, not_here (n + 0) {i = p} l (omega arith))
+      at_p_is = rw (eq-eqb p p refl, not_here {i = p} (n + 0) l (omega arith))
 
       none_new : added pool [] at_p ≡ []
       none_new = ap (added pool []) at_p_is
@@ -229,13 +229,13 @@ module _ (pool : List Event) where
 
   at_copy : (n p : ℕ) (ds : List Deed) (x : Event) (xs : List Event) → Late (suc p) ds → makes n p ds (x ∷ xs) ≡ x ∷ makes n (suc p) ds xs
   unfolding link_all
-  at_copy n p ds x xs l = rw (not_linked {i = p} l (omega arith)) (copied pool (edits_from n ds) p x (link_all ds (suc p) xs) (not_here n {i = p} l (omega arith)) ∙ ap (λ (k : ℕ). x ∷ edited pool (edits_from n ds) k 0 (link_all ds (suc p) xs)) (add-one p))
+  at_copy n p ds x xs l = rw (not_linked {i = p} l (omega arith)) (copied pool (edits_from n ds) p x (link_all ds (suc p) xs) (not_here {i = p} n l (omega arith)) ∙ ap (λ (k : ℕ). x ∷ edited pool (edits_from n ds) k 0 (link_all ds (suc p) xs)) (add-one p))
 
   at-link : (n p : ℕ) (ds : List Deed) (x : Event) (xs : List Event) → Late (suc p) ds → makes n p (link p ∷ ds) (x ∷ xs) ≡ linked x ∷ makes n (suc p) ds xs
   unfolding link_all is_linked edits_from
   at-link n p ds x xs l =
       rw (eq-eqb p p refl, link-past p ds (suc p) xs (omega arith))
-      (copied pool (edits_from n ds) p (linked x) (link_all ds (suc p) xs) (not_here n {i = p} l (omega arith)) ∙ ap (λ (k : ℕ). linked x ∷ edited pool (edits_from n ds) k 0 (link_all ds (suc p) xs)) (add-one p))
+      (copied pool (edits_from n ds) p (linked x) (link_all ds (suc p) xs) (not_here {i = p} n l (omega arith)) ∙ ap (λ (k : ℕ). linked x ∷ edited pool (edits_from n ds) k 0 (link_all ds (suc p) xs)) (add-one p))
 
   at-adds : (n p : ℕ) (ds : List Deed) (new xs : List Event) → take (length new) (drop n pool) ≡ new → makes n p (add p 0 new ∷ ds) xs ≡ new ++ makes (n + length new) p ds xs
   at-adds n p ds new xs h = ap (λ (l : List Event). edited pool (edits_from n (add p 0 new ∷ ds)) p 0 l) (link-add p 0 new ds p xs) ∙ front pool p n ds new (link_all ds p xs) h

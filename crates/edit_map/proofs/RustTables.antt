@@ -1,6 +1,6 @@
 -- What the Rust's edits make of raw tables.
 -- Assumes nothing.
-use Prim.Native.Nat.{ℕ, zero, suc, ◌<◌}
+use Prim.Native.Nat.{ℕ, suc}
 use mathlib.Core.Path.{◌≡◌, refl, sym, ap, ◌∙◌, subst}
 use mathlib.Core.List.{List, [], ◌∷◌, ◌++◌, append_assoc, append-nil}
 use mathlib.Core.Bool.{Bool, true, false, cond, ◌||◌, ◌&&◌, not}
@@ -13,12 +13,12 @@ use Rattle.tokenizer.specs.Slots.{event_at}
 use Rattle.tokenizer.specs.Events.{LineEnding, GfmTable, GfmTableBody, GfmTableHead, GfmTableRow, GfmTableDelimiterRow, enter, leave, point_of}
 use Rattle.gfm_table.specs.Rows.{Passed, Row, both, all_both, raw_row}
 use Rattle.edit_map.specs.Base.{is_row_name}
-use Rattle.edit_map.specs.Tables.{BodyRow, Table, raw_body, raw_table, raw_tables, cells, cell_events, resolved_row, resolved_text, resolved_rows, last_exit, resolved_body, resolved_table, resolved_tables}
+use Rattle.edit_map.specs.Tables.{BodyRow, Table, raw_body, raw_table, raw_tables, resolved_row, resolved_text, resolved_rows, last_exit, resolved_body, resolved_table, resolved_tables}
 use Rattle.edit_map.specs.Raw
 use Rattle.edit_map.specs.Raw.{row_piece, delimiter_piece, IsPiece, ArePieces, IsRow, IsLineEnd, AreRows, IsTable, AreTables}
 use Rattle.edit_map.specs.Accept.{accepts}
 use Rattle.edit_map.specs.TablesOf.{resolved_list}
-use Rattle.edit_map.specs.RustEdits.{Deed, add, Span, no_span, Loop, begin, Did, if, group_name, enter_at, leave_at, flush_open, enter_head, leave_head, turn, deeds_from, stays, pool_of, by_edits}
+use Rattle.edit_map.specs.RustEdits.{Deed, add, Span, no_span, Loop, begin, Did, if, group_name, enter_at, flush_open, enter_head, leave_head, turn, deeds_from, stays, pool_of, by_edits}
 use Rattle.edit_map.proofs.Gives.{Tests, Sort}
 use Rattle.edit_map.proofs.Streams.{sort_row, sort_delimiter}
 use Rattle.edit_map.proofs.Resolving.{Plain, row_plain, delimiter-plain, accepted-is}

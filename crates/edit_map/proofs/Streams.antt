@@ -18,7 +18,7 @@ use Rattle.edit_map.specs.Tables.{delimiter_inner, raw_tables, resolved_tables, 
 use Rattle.edit_map.proofs.Stream.{first}
 use Rattle.edit_map.specs.Base.{is_row_name, is_text_name}
 use Rattle.edit_map.specs.Turns.{cell_name, plain, goes_on}
-use Rattle.edit_map.proofs.Gives.{Gives, none, more, then, moved, turned, Sort, space, divider, text, Ends, AllFine, done, also, inner_of, at, some-cell, pieces}
+use Rattle.edit_map.proofs.Gives.{Gives, none, more, then, moved, turned, Sort, space, divider, text, Ends, AllFine, done, also, inner_of, some-cell, pieces}
 use Rattle.edit_order.proofs.Bools.{both_true, either}
 
 -- ## The names of pieces are of a sort

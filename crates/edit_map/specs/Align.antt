@@ -1,5 +1,5 @@
 -- The alignments that a list of events tells, as question 13 asks for them.
-use Rattle.std.specs.Prelude.{ℕ, List, [], ◌∷◌, Bool, true, false, cond, ◌&&◌, not, eqb, drop}
+use Rattle.std.specs.Prelude.{ℕ, List, [], ◌∷◌, Bool, true, false, cond, ◌&&◌, eqb, drop}
 use Rattle.std.proofs.Math.Option.{Option, none, some}
 use Rattle.tokenizer.specs.declared.event.Event.{Event}
 use Rattle.tokenizer.specs.Events.{GfmTable, GfmTableDelimiterCellValue, GfmTableDelimiterMarker, GfmTableDelimiterRow}

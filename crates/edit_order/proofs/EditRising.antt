@@ -180,7 +180,8 @@ module _ (len n : ℕ) where
       → stretch len (v ∷ e ∷ es) v.at ≡ leb (v.at + v.removes) e.at
   unfolding every
   first-stretch v e es d h l r =
-      rw (all-removed, le-leb (v.at + v.removes) len h, clear-low v v.at v.removes (le_refl v.at), ← (clear-high e v.at v.removes d l))
+      ap (λ (m : ℕ). leb (v.at + m) len && every (clear v.at m) (v ∷ e ∷ es)) all-removed
+      ∙ rw (le-leb (v.at + v.removes) len h, clear-low v v.at v.removes (le_refl v.at), ← (clear-high e v.at v.removes d l))
       (go (leb (v.at + v.removes) e.at) refl)
     where
       all-removed : removed_at (v ∷ e ∷ es) v.at ≡ v.removes

@@ -2,7 +2,7 @@
 -- Assumes nothing.
 use Prim.Native.Nat.{ℕ, ◌+◌}
 use mathlib.Core.Path.{◌≡◌, refl, ap, sym, ◌∙◌}
-use mathlib.Core.Bool.{Bool, true, false, cond, ◌&&◌, and_true, and_false, or_false, true≢false, false≢true}
+use mathlib.Core.Bool.{Bool, true, false, cond, ◌&&◌, and-true, and-false, or-false, true≢false, false≢true}
 use mathlib.Core.List.{List, [], ◌∷◌, ◌++◌}
 use native.Mathlib.Omega.{arith}
 use borrow.Author.Tests.{eqb-true, eqb-false, ne_eqb}
@@ -94,15 +94,15 @@ module _ (kind : ℕ → ℕ) where
 
     then_hyphen : (c : ℕ) (y : List ℕ) → kind c ≡ 5 → hyphens kind (b ∷ c ∷ y) ≡ hyphens kind (c ∷ y)
     unfolding hyphens
-    then_hyphen c y f = rw (e, f, and_false (is_empty y))
+    then_hyphen c y f = rw (e, f, and-false (is_empty y))
 
     then_colon : (c : ℕ) (y : List ℕ) → kind c ≡ 6 → hyphens kind (b ∷ c ∷ y) ≡ is_empty y
     unfolding hyphens
-    then_colon c y f = rw (e, hyphens_off c y (rw f), f, and_true (is_empty y), or_false (is_empty y))
+    then_colon c y f = rw (e, hyphens_off c y (rw f), f, and-true (is_empty y), or-false (is_empty y))
 
     then_other : (c : ℕ) (y : List ℕ) → eqb (kind c) 5 ≡ false → eqb (kind c) 6 ≡ false → hyphens kind (b ∷ c ∷ y) ≡ false
     unfolding hyphens
-    then_other c y f g = rw (e, hyphens_off c y f, g, and_false (is_empty y))
+    then_other c y f g = rw (e, hyphens_off c y f, g, and-false (is_empty y))
 
   -- more hyphens, an optional colon and whitespace
   after_hyphen : (b : ℕ) (u : List ℕ) → kind b ≡ 5 → hyphens kind (b ∷ untailed kind (stretch kind u)) ≡ closes kind (after_run kind 5 u)

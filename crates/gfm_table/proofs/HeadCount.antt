@@ -7,7 +7,6 @@ use mathlib.Core.List.{List, [], ◌∷◌}
 use native.Mathlib.Omega.{arith}
 use borrow.Author.Tests.{ltb-true, ltb-false, lt-ltb, le-ltb, lt-leb}
 use lib.Dec.{leb, ltb}
-use lib.ListN.{length}
 use Rattle.gfm_table.specs.Rows.{Piece}
 use Rattle.gfm_table.specs.Heads.{is_divider, lone_divider}
 use Rattle.gfm_table.specs.HeadCount.{size_b_of, saturated, saturating_inc}

@@ -17,4 +17,3 @@ pub mod HeadRows
 pub mod Marks
 pub mod ValuePlaces
 pub mod Known
-pub mod Types

@@ -2,7 +2,7 @@
 -- Assumes nothing.
 use Prim.Native.Nat.{ℕ, suc, ◌+◌, ◌≤◌, ◌<◌}
 use mathlib.Core.Path.{◌≡◌, refl, ap, sym, ◌∙◌}
-use mathlib.Core.Bool.{Bool, true, false, cond, ◌&&◌, and_true, and_false, true≢false}
+use mathlib.Core.Bool.{Bool, true, false, cond, ◌&&◌, and-true, and-false, true≢false}
 use mathlib.Core.List.{List, [], ◌∷◌, ◌++◌}
 use native.Mathlib.Nat.{add-zero}
 use native.Mathlib.Omega.{arith}
@@ -289,8 +289,8 @@ module _ {kind : ℕ → ℕ} (ok : Reads kind) where
     row-counted on = ap (λ (t : Bool). permitted kind on u && t) (go (marked kind u) every)
       where
         go : (m t : Bool) → (m && (ltb 0 count && t)) ≡ ltb 0 (cond (m && t) count 0)
-        go true true = and_true (ltb 0 count)
-        go true false = and_false (ltb 0 count)
+        go true true = and-true (ltb 0 count)
+        go true false = and-false (ltb 0 count)
         go false t = refl
 
     pub count-values : 0 < value_count kind u → value_count kind u ≡ length (values kind u)
@@ -302,7 +302,7 @@ module _ {kind : ℕ → ℕ} (ok : Reads kind) where
 
   -- no delimiter row
   pub no_row : (on : Bool) (p : Point) (u : List ℕ) → 0 ≡ value_count kind u → NoValues ≡ delimiter_at kind on p u
-  no_row on p u h = rw (row-counted u on, ← h, and_false (permitted kind on u))
+  no_row on p u h = rw (row-counted u on, ← h, and-false (permitted kind on u))
 
   -- the first solid byte is neither a divider nor a hyphen nor a colon
   first_bad : (u : List ℕ) (b : ℕ) (w : List ℕ) → unindented kind u ≡ b ∷ w → (kind b ≡ 3 → ⊥) → (kind b ≡ 5 → ⊥) → (kind b ≡ 6 → ⊥) → all_values kind (values kind u) ≡ false
@@ -319,7 +319,7 @@ module _ {kind : ℕ → ℕ} (ok : Reads kind) where
       bad f =
           let b = get_or s i 0 in
           let u : unindented kind (line_from s i) ≡ b ∷ line_from s (i + 1) = ap (unindented kind) f.line ∙ rw (ne_eqb (kind b) 1 (λ q. x (sym f.is ∙ q))) in
-          rw (first_bad (line_from s i) b (line_from s (i + 1)) u (λ q. y (sym f.is ∙ q)) (λ q. z (sym f.is ∙ q)) (λ q. t (sym f.is ∙ q)), and_false (marked kind (line_from s i)))
+          rw (first_bad (line_from s i) b (line_from s (i + 1)) u (λ q. y (sym f.is ∙ q)) (λ q. z (sym f.is ∙ q)) (λ q. t (sym f.is ∙ q)), and-false (marked kind (line_from s i)))
 
       go : (r : Bool) → eqb k 2 ≡ r → 0 ≡ value_count kind (line_from s i)
       go true j = count_unmarked (line_from s i) (unmarked ok (drop i s) (sym e ∙ eqb-true k 2 j))

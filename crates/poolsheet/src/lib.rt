@@ -1,4 +1,4 @@
-// The six calls by their C names. A slice is a pointer and a length, in the place of the parameter; an array is a pointer.
+// The six calls as numbers, by the names that `poolsheet_c` exports to C.
 #![tactic(auto)]
 
 ghost use Rattle.std.specs.Prelude.{◌≡◌, ◌||◌, length};
@@ -22,8 +22,7 @@ use tokenizer::event::Event;
 pub mod answers;
 
 // A head at an offset. Counts: events, end, cells.
-#[unsafe(no_mangle)]
-pub extern "C" fn poolsheet_head(
+pub fn poolsheet_head(
     sheet: &[u8],
     offset: usize,
     code_indented: bool,
@@ -42,8 +41,7 @@ pub extern "C" fn poolsheet_head(
 }
 
 // A body row at an offset. Counts: events, end.
-#[unsafe(no_mangle)]
-pub extern "C" fn poolsheet_row(
+pub fn poolsheet_row(
     sheet: &[u8],
     offset: usize,
     lazy: bool,
@@ -60,8 +58,7 @@ pub extern "C" fn poolsheet_row(
 }
 
 // The result events of a list of raw tables. Counts: events.
-#[unsafe(no_mangle)]
-pub extern "C" fn poolsheet_resolve(
+pub fn poolsheet_resolve(
     list: &[Event],
     results: &mut [Event],
     counts: &mut [usize; 1],
@@ -76,8 +73,7 @@ pub extern "C" fn poolsheet_resolve(
 }
 
 // A list, edited, with additions from a pool. Counts: events.
-#[unsafe(no_mangle)]
-pub extern "C" fn poolsheet_edit(
+pub fn poolsheet_edit(
     list: &[Event],
     edits: &mut [usize],
     pool: &[Event],
@@ -95,8 +91,7 @@ pub extern "C" fn poolsheet_edit(
 }
 
 // The alignments of the table that the event at a place enters. Counts: alignments.
-#[unsafe(no_mangle)]
-pub extern "C" fn poolsheet_align(
+pub fn poolsheet_align(
     list: &[Event],
     index: usize,
     alignments: &mut [u8],
@@ -112,8 +107,7 @@ pub extern "C" fn poolsheet_align(
 }
 
 // A whole sheet, read by a table of kinds. Counts: tables, raw events, result events, alignments.
-#[unsafe(no_mangle)]
-pub extern "C" fn poolsheet_sheet(
+pub fn poolsheet_sheet(
     sheet: &[u8],
     kinds: &[u8],
     code_indented: bool,

@@ -92,10 +92,10 @@ module _ (R : Point → Point → Type 0) where
   pub cells_alike : {a b : Bool} {xs ys : List Passed} → a ≡ b → Each AlikePassed xs ys → Each (Each AlikePassed) (cells a xs) (cells b ys)
   unfolding cells
   cells_alike e none = more none none
-  cells_alike e (more h hs) =
+  cells_alike {a} {b} e (more {a = x} {b = y} h hs) =
       each_cond (ap₂ ◌&&◌ e (ap₂ ◌&&◌ (named_alike GfmTableCellDivider h) (any_solid_alike hs)))
-      (more none (before_alike h (cells_alike refl hs)))
-      (before_alike h (cells_alike (ap₂ ◌||◌ e (is_solid_alike h)) hs))
+      (more none (before_alike h (cells_alike {a = true} {b = true} refl hs)))
+      (before_alike h (cells_alike {a = a || is_solid x} {b = b || is_solid y} (ap₂ ◌||◌ e (is_solid_alike h)) hs))
 
   -- ## What stands in a cell
 

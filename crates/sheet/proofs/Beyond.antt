@@ -102,14 +102,14 @@ module _ (kind : ℕ → ℕ) (on : Bool) where
         let q = onward (onward p l) d in
         let early : p.index < (after q ls).index = omega (arith, after-le ls q, solid-length kind l.body o.filled) in
         rw (lt-leb (after q ls).index p.index early)
-        (past-rows q ls k (blank_last-tail kind _ (placed q ls) h) (goes_on_lem kind (onward p l) d ls h (marked-blank kind d.body o.marked))))
+        (past-rows q ls k (blank_last-tail kind (starting (onward p l) d) (placed q ls) h) (goes_on_lem kind (onward p l) d ls h (marked-blank kind d.body o.marked))))
         (λ e. past-heads (onward p l) (d ∷ ls) k h)
 
     past-rows : (p : Point) (ls k : List Line) → blank_last kind (placed p ls) ≡ true → 0 < length ls
         → tables_from (after p ls).index (rows kind on (placed p (ls ++ k))) ≡ heads kind on (placed (after p ls) k)
     past-rows p [] k h n = absurd (omega arith)
     past-rows p (l ∷ ls) k h n =
-        let g = blank_last-tail kind _ (placed (onward p l) ls) h in
+        let g = blank_last-tail kind (starting p l) (placed (onward p l) ls) h in
         by_cases (λ z. tables_from (after p (l ∷ ls)).index z ≡ heads kind on (placed (after p (l ∷ ls)) k)) (closes kind l.body)
         (λ e. past-heads (onward p l) ls k g)
         (λ e. past-rows (onward p l) ls k g (goes_on_lem kind p l ls h (closes_not kind l.body e).0))

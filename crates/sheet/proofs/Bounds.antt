@@ -12,15 +12,13 @@ use Rattle.tokenizer.specs.declared.event.Event.{Event}
 use Rattle.tokenizer.specs.Events.{GfmTableRow, GfmTableDelimiterRow}
 use Rattle.tokenizer.specs.Points.{past, next_line}
 use Rattle.tokenizer.specs.Lines.{Line, starts_lf, on_first, crlf, lines, is_empty}
-use Rattle.tokenizer.specs.Moves.{line_at, after}
-use Rattle.tokenizer.specs.Places.{Placed, placed, lines_from, lines_past}
+use Rattle.tokenizer.specs.Places.{Placed, placed, lines_from}
 use Rattle.gfm_table.specs.Heads.{on_stretch, stretches, trimmed, unled, untrailed, values, alignments}
 use Rattle.gfm_table.specs.Rows.{row_pieces, delimiter_pieces, both, raw_row}
 use Rattle.gfm_table.specs.Raw.{text_row}
 use Rattle.gfm_table.proofs.Plans.{row-few, delimiter-few, row-length}
 use Rattle.edit_map.specs.Tables.{raw_body, raw_table}
 use Rattle.sheet.specs.Walk.{Found, closes, line_end, body_rows, raw_of, aligned_of, table_of, opens, heads, rows}
-use Rattle.sheet.specs.From.{here}
 use Rattle.sheet.proofs.Tests.{test}
 
 -- ## A line

@@ -2,7 +2,7 @@
 -- Assumes nothing.
 use Prim.Native.Nat.{ℕ, ◌+◌, ◌<◌}
 use mathlib.Core.Path.{◌≡◌, refl, ap, sym, ◌∙◌}
-use mathlib.Core.Bool.{true, false, and_false, true≢false}
+use mathlib.Core.Bool.{true, false, and-false, true≢false}
 use mathlib.Core.List.{List, [], ◌∷◌}
 use native.Mathlib.Omega.{arith}
 use borrow.Author.Tests.{eq-eqb, ne_eqb, eqb-true, eqb-false, lt-leb}
@@ -54,7 +54,7 @@ module _ (kind : ℕ → ℕ) (u : List ℕ) (b : ℕ) (v : List ℕ) (e : unind
 
   pub closes_other : (b ≡ 62 → ⊥) → closes kind u ≡ false
   unfolding closes
-  closes_other h = rw (e, ne_eqb b 62 h) (and_false (shallow kind u))
+  closes_other h = rw (e, ne_eqb b 62 h) (and-false (shallow kind u))
 
 -- ## How wide an indent is
 

@@ -1,15 +1,15 @@
 -- Resolving at most doubles the events of a table.
 -- Assumes nothing.
 use Prim.Native.Nat.{ℕ, ◌+◌, ◌*◌, ◌≤◌}
-use mathlib.Core.Path.{◌≡◌, refl, ap}
+use mathlib.Core.Path.{◌≡◌, refl}
 use mathlib.Core.List.{List, [], ◌∷◌, ◌++◌}
 use mathlib.Core.Bool.{false}
 use native.Mathlib.Omega.{arith}
 use lib.ListN.{length, length-append}
 use Rattle.tokenizer.specs.declared.event.Event.{Event}
-use Rattle.tokenizer.specs.Events.{GfmTableBody, GfmTable, GfmTableCell, GfmTableDelimiterCell, enter, leave, point_of}
+use Rattle.tokenizer.specs.Events.{GfmTableBody, GfmTable, GfmTableCell, GfmTableDelimiterCell, leave, point_of}
 use Rattle.gfm_table.specs.Rows.{Passed, Row, both, all_both, raw_row}
-use Rattle.edit_map.specs.Tables.{BodyRow, Table, raw_body, raw_table, cells, row_inner, delimiter_inner, cell_events, resolved_row, resolved_text, resolved_rows, last_exit, resolved_body, resolved_table}
+use Rattle.edit_map.specs.Tables.{BodyRow, Table, raw_body, raw_table, cells, delimiter_inner, cell_events, resolved_row, resolved_text, resolved_rows, last_exit, resolved_body, resolved_table}
 use Rattle.edit_map.proofs.Cells.{Inner, row-inner, delimiter-inner, cells-few}
 
 -- two events a piece

@@ -2,7 +2,7 @@
 -- Assumes nothing.
 use Prim.Native.Nat.{ℕ, ◌+◌, ◌≤◌, ◌<◌}
 use mathlib.Core.Path.{◌≡◌, refl, ap, sym, ◌∙◌}
-use mathlib.Core.Bool.{Bool, true, false, cond, ◌&&◌, ◌||◌, not, and_false, false≢true}
+use mathlib.Core.Bool.{Bool, true, false, cond, ◌&&◌, ◌||◌, not, and-false, false≢true}
 use mathlib.Core.List.{List, [], ◌∷◌}
 use native.Mathlib.Omega.{arith}
 use borrow.Author.Tests.{eq-eqb, ne_eqb, ltb-true, lt-ltb}
@@ -150,7 +150,7 @@ module _ {kind : ℕ → ℕ} (ok : Reads kind) (s : List ℕ) (on : Bool) (i d 
 
   -- the next line has no values
   pub columns_zero : 0 ≡ value_count kind counted → 0 ≡ columns_of kind s on i d
-  columns_zero h = rw (row-counted ok counted on, ← h, and_false (permitted kind on counted))
+  columns_zero h = rw (row-counted ok counted on, ← h, and-false (permitted kind on counted))
 
   -- its indent is not permitted
   pub columns-row : permitted kind on counted ≡ false → 0 ≡ columns_of kind s on i d
@@ -158,11 +158,11 @@ module _ {kind : ℕ → ℕ} (ok : Reads kind) (s : List ℕ) (on : Bool) (i d 
 
   -- the head line's indent is not
   pub columns-head : permitted kind on (line_body (drop i s)) ≡ false → 0 ≡ columns_of kind s on i d
-  columns-head h = rw (h, and_false (is_delimiter_row kind on counted))
+  columns-head h = rw (h, and-false (is_delimiter_row kind on counted))
 
   -- the head line is blank or a remark
   pub columns-closed : closes kind (line_body (drop i s)) ≡ true → 0 ≡ columns_of kind s on i d
-  columns-closed h = rw (h, and_false (permitted kind on (line_body (drop i s))), and_false (is_delimiter_row kind on counted))
+  columns-closed h = rw (h, and-false (permitted kind on (line_body (drop i s))), and-false (is_delimiter_row kind on counted))
 
   -- the next line has values, both indents are permitted, and the head line is neither
   pub columns-both : (value_count kind counted ≡ 0 → ⊥) → permitted kind on counted ≡ true → permitted kind on (line_body (drop i s)) ≡ true → closes kind (line_body (drop i s)) ≡ false → columns_if kind s i (value_count kind counted) ≡ columns_of kind s on i d

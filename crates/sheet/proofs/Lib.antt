@@ -9,7 +9,6 @@ pub mod LastRow
 pub mod Placing
 pub mod Aligning
 pub mod Slots
-pub mod Types
 pub mod Tabled
 pub mod ResultRows
 pub mod ResultBodies

@@ -1,8 +1,8 @@
 -- The raw events of rows, heads, bodies and tables, written to slots one part after the other.
 -- Assumes nothing.
 use Prim.Native.Nat.{ℕ, ◌+◌, ◌*◌, ◌≤◌, ◌<◌}
-use mathlib.Core.Path.{◌≡◌, refl, ap, sym, ◌∙◌}
-use mathlib.Core.Bool.{Bool, false}
+use mathlib.Core.Path.{◌≡◌, ap, sym, ◌∙◌}
+use mathlib.Core.Bool.{false}
 use mathlib.Core.List.{List, [], ◌∷◌, ◌++◌, append_assoc}
 use native.Mathlib.Omega.{arith}
 use lib.Dec.{eqb}
@@ -10,7 +10,7 @@ use lib.ListN.{length, drop, set, length-append}
 use borrow.Author.Tests.{eqb-true, eqb-false}
 use Rattle.tokenizer.specs.declared.event.Point.{Point}
 use Rattle.tokenizer.specs.declared.event.Event.{Event}
-use Rattle.tokenizer.specs.Points.{start, past, next_line}
+use Rattle.tokenizer.specs.Points.{past, next_line}
 use Rattle.tokenizer.specs.Events.{LineEnding, GfmTableHead, GfmTableRow, enter, leave, point_of}
 use Rattle.tokenizer.specs.Slots.{wrote}
 use Rattle.tokenizer.specs.Lines.{Line, end_at, lines}
@@ -26,14 +26,11 @@ use Rattle.gfm_table.specs.Places.{row_wrote}
 use Rattle.gfm_table.proofs.Plans.{row-length}
 use Rattle.edit_map.specs.Tables.{BodyRow, raw_body, raw_table, last_exit}
 use Rattle.sheet.specs.declared.tables.Written.{Written}
-use Rattle.sheet.specs.declared.spans.Where.{Where}
-use Rattle.sheet.specs.declared.spans.Span.{Span}
-use Rattle.sheet.specs.Walk.{Found, closes, line_end, body_rows, tables, raw_of}
+use Rattle.sheet.specs.Walk.{closes, line_end, body_rows}
 use Rattle.sheet.specs.From.{here}
-use Rattle.sheet.specs.Spans.{head_of, last_point, last_stop, Spanned}
+use Rattle.sheet.specs.Spans.{last_point, last_stop}
 use Rattle.sheet.specs.Placing.{point_at, written_at, AtEnd, Few, row_events, next_events, heads_events, rows_after, table_at}
 use Rattle.sheet.proofs.Tests.{test}
-use Rattle.sheet.proofs.Bounds.{from-tally}
 use Rattle.sheet.proofs.Stops.{rows_same, stop-stop, stop-after, stop-past, stop-line, stop-here, end-here}
 use Rattle.sheet.proofs.From.{past-last, past_more}
 use Rattle.sheet.proofs.Bodies.{next-lines}

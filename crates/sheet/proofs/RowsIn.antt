@@ -6,7 +6,8 @@ use mathlib.Core.List.{List, [], ◌∷◌, ◌++◌, append_assoc, append-nil}
 use mathlib.Core.Bool.{true, false}
 use Rattle.tokenizer.specs.declared.event.Point.{Point}
 use Rattle.tokenizer.specs.declared.event.Event.{Event}
-use Rattle.tokenizer.specs.Events.{GfmTableDelimiterCell, enter, leave}
+use Rattle.tokenizer.specs.Points.{past}
+use Rattle.tokenizer.specs.Events.{GfmTableDelimiterRow, GfmTableDelimiterCell, enter, leave}
 use Rattle.tokenizer.specs.Places.{Placed}
 use Rattle.gfm_table.specs.Rows.{Row, raw_row}
 use Rattle.gfm_table.specs.Raw.{text_row, delimiter_row}
@@ -139,4 +140,4 @@ module _ (kind : ℕ → ℕ) where
       (other refl
       (other refl
       (whole_append (resolved-text kind l.at l.line.body)
-      (other refl (other refl (whole_append (resolved-delimiter kind d.at d.line.body) (other refl (resolved_body-rows _ d ls))))))))
+      (other refl (other refl (whole_append (resolved-delimiter kind d.at d.line.body) (other refl (resolved_body-rows (leave GfmTableDelimiterRow (past d.at d.line.body)) d ls))))))))

@@ -3,7 +3,7 @@
 use Prim.Native.Nat.{ℕ, ◌<◌}
 use mathlib.Core.Path.{◌≡◌, refl, ap, sym, ◌∙◌}
 use mathlib.Core.List.{List, [], ◌∷◌}
-use mathlib.Core.Bool.{Bool, true, false, cond, ◌||◌, ◌&&◌, not, true≢false, false≢true, and_false}
+use mathlib.Core.Bool.{Bool, true, false, cond, ◌||◌, ◌&&◌, not, true≢false, false≢true, and-false}
 use native.Mathlib.Omega.{arith}
 use native.Mathlib.Nat.{zero-lt-suc}
 use lib.Dec.{eqb}
@@ -102,7 +102,7 @@ cells_runs r seen (x ∷ xs) h =
     rw (d, e)
     (ap (told r) (before_tells idle x (cells true xs) (cells-some true xs) ∙ ap (λ z. cells_tell z (cells true xs)) (divider_feed idle x d) ∙ cells_runs idle true xs (λ k. refl))))
     (λ e. rw (d, e) (joined ∙ ap (λ z. cells_tell z (cells on xs)) (divider_feed r x d) ∙ cells_runs r on xs (λ k. rw (h k)) ∙ closing r seen xs h e)))
-    (λ d. rw (d, and_false seen) (joined ∙ cells_runs (feed r x) on xs (busy-solid r seen x h)))
+    (λ d. rw (d, and-false seen) (joined ∙ cells_runs (feed r x) on xs (busy-solid r seen x h)))
 
 -- ## The same runs among a line's bytes
 
@@ -140,6 +140,16 @@ on_pieces_lem r n b (q ∷ ps) =
     (λ f. rw (e, f, ← eqb-true n q.name f, joins_divider n e, fed_again (text_name n) (eqb n GfmTableDelimiterMarker) r)) (λ f. rw (e, f)))
     (λ e. rw e)
 
+-- what a byte's three tests tell of its name
+name-told : (r : Run) (x y z : Bool) → y ≡ false → let n = cond x SpaceOrTab (cond y GfmTableCellDivider (cond z GfmTableDelimiterMarker GfmTableDelimiterFiller)) in
+    (eqb n GfmTableCellDivider ≡ false) × (feed_name r n ≡ fed (not x) z r)
+name-told r true true z h = absurd (true≢false h)
+name-told r true false true h = (refl, refl)
+name-told r true false false h = (refl, refl)
+name-told r false true z h = absurd (true≢false h)
+name-told r false false true h = (refl, refl)
+name-told r false false false h = (refl, refl)
+
 module _ (kind : ℕ → ℕ) where
   abbrev feed_byte : Run → ℕ → Run
   feed_byte r b = fed (not (is_space kind b)) (eqb (kind b) 6) r
@@ -168,8 +178,7 @@ module _ (kind : ℕ → ℕ) where
 
   -- a byte that is no pipe is text unless it is whitespace, and a marker if it is a colon
   byte-name : (r : Run) (b : ℕ) → eqb (kind b) 3 ≡ false → (eqb (delimiter_name kind b) GfmTableCellDivider ≡ false) × (feed_name r (delimiter_name kind b) ≡ feed_byte r b)
-  byte-name r b h =
-      test (eqb (kind b) 1) (λ e. (rw e, rw e)) (λ e. test (eqb (kind b) 6) (λ f. (rw (e, h, f), rw (e, h, f))) (λ f. (rw (e, h, f), rw (e, h, f))))
+  byte-name r b h = name-told r (eqb (kind b) 1) (eqb (kind b) 3) (eqb (kind b) 6) h
 
   pieces-stretches : (r : Run) (s : List ℕ) → pieces_tell r (delimiter_pieces kind s) ≡ stretches_tell r (stretches kind s)
   unfolding delimiter_pieces stretches pieces_tell stretches_tell feed_bytes

@@ -22,14 +22,13 @@ use Rattle.edit_map.specs.Tables.{Table, raw_table, resolved_table, raw_tables, 
 use Rattle.edit_map.specs.Raw.{row_piece, delimiter_piece, IsRow, IsTable, AreRows, AreTables}
 use Rattle.edit_map.specs.Accept.{accepts}
 use Rattle.edit_map.specs.TablesOf.{resolved_list}
-use Rattle.edit_map.specs.declared.resolve.Resolved.{Resolved}
 use Rattle.edit_map.specs.declared.resolve.Resolved.TheVariants.{Refused, Accepted}
 use Rattle.edit_map.specs.Answers.{resolve_answer, resolve_slots}
 use Rattle.edit_map.proofs.RawRows.{text-row, delimiter-row}
 use Rattle.edit_map.proofs.Parse.{accepts-raw}
 use Rattle.edit_map.proofs.Resolving.{tables_of_lem}
 use Rattle.sheet.proofs.Tests.{test, both_true}
-use Rattle.sheet.specs.Walk.{Found, closes, line_end, body_rows, table_of, opens, found, heads, rows, tables, raw_of, resolved_of}
+use Rattle.sheet.specs.Walk.{Found, closes, line_end, body_rows, table_of, opens, heads, rows, tables, raw_of, resolved_of}
 
 -- the tables alone
 unfoldable tables_in : List Found → List Table

@@ -15,11 +15,9 @@ use Rattle.tokenizer.specs.declared.event.Event.{Event}
 use Rattle.tokenizer.specs.Slots.{wrote}
 use Rattle.tokenizer.specs.Places.{lines_from, first_point}
 use Rattle.tokenizer.specs.Bytes.{kind_in, kinds_refusal, Passes}
-use Rattle.tokenizer.specs.Moves.{after}
 use Rattle.tokenizer.proofs.KindTables.{passes}
 use Rattle.tokenizer.proofs.Writing.{wrote_none, wrote-append}
 use Rattle.edit_map.specs.Tables.{Table, raw_table, resolved_table}
-use Rattle.sheet.specs.declared.spans.Span.{Span}
 use Rattle.sheet.specs.declared.write.Counts.{Counts}
 use Rattle.sheet.specs.declared.write.Tabled.{Tabled}
 use Rattle.sheet.specs.Walk.{Found, tables, heads, raw_of, resolved_of, aligned_of}
@@ -110,6 +108,12 @@ module _ (s t : List ℕ) (on : Bool) where
       (wrote 0 (raw_of all) ys ≡ wrote c.counts.raw (raw_of fs) zs)
       × (wrote 0 (resolved_of all) ms ≡ wrote c.counts.results (resolved_of fs) ws)
       × (aligned_from 0 all ks ≡ aligned_from c.counts.aligned fs ns)
+
+  -- some tables are left, and that is told of the slots
+  pub record Left (ys ms : List Event) (ks : List ℕ) (c : Tabled) (zs ws : List Event) (ns : List ℕ) : Type 0 where
+    pub left : List Found
+    pub facts : Facts c left
+    pub told : Told ys ms ks c left zs ws ns
 
   -- before the first table
   abbrev pub none : Counts

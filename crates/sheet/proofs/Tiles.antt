@@ -3,7 +3,7 @@
 use Prim.Native.Nat.{ℕ, ◌+◌, ◌≤◌, ◌<◌}
 use mathlib.Core.Path.{◌≡◌, refl, ap, sym, ◌∙◌}
 use mathlib.Core.List.{List, [], ◌∷◌, ◌++◌}
-use mathlib.Core.Bool.{Bool, true, false, cond, ◌||◌, ◌&&◌, false≢true, or_false, and_false}
+use mathlib.Core.Bool.{Bool, true, false, cond, ◌||◌, ◌&&◌, false≢true, or-false, and-false}
 use native.Mathlib.Omega.{arith}
 use lib.Dec.{eqb, leb, ltb}
 use lib.ListN.{length}
@@ -11,7 +11,7 @@ use borrow.Author.Tests.{le-leb, lt-leb, le-ltb, ltb-true, ltb-false, eq-eqb}
 use Rattle.tokenizer.specs.declared.event.Point.{Point}
 use Rattle.tokenizer.specs.declared.event.Event.{Event}
 use Rattle.tokenizer.specs.Points.{past}
-use Rattle.tokenizer.specs.Events.{Data, GfmTableCell, GfmTableCellDivider, GfmTableDelimiterRow, GfmTableDelimiterCell, leave}
+use Rattle.tokenizer.specs.Events.{Data, GfmTableCell, GfmTableCellDivider, GfmTableRow, GfmTableDelimiterRow, GfmTableDelimiterCell, leave}
 use Rattle.tokenizer.specs.Lines.{Line}
 use Rattle.tokenizer.specs.Places.{Placed, placed, end_of}
 use Rattle.gfm_table.specs.Rows.{Piece, Passed, passed, joins, on_pieces, odd_after, row_pieces, delimiter_pieces, Row, all_both, raw_row}
@@ -84,7 +84,7 @@ unfolding holding
 tiles_behind i done l = refl
 tiles_behind i (skip h t) l = rw h (omega (arith, tiles_behind i t l))
 tiles_behind {a} i (tile {b} {es = es} h t) l =
-    tile_holding i es h ∙ rw (le-ltb i b (omega (arith, tiles_order t)), and_false (leb a i)) (omega (arith, tiles_behind i t l))
+    tile_holding i es h ∙ rw (le-ltb i b (omega (arith, tiles_order t)), and-false (leb a i)) (omega (arith, tiles_behind i t l))
 
 -- before other events they hold what they hold alone
 pub tiles_more : {a b : ℕ} {es : List Event} (i : ℕ) (fs : List Event) → Tiles a b es → holding i (es ++ fs) ≡ holding i es + holding i fs
@@ -175,7 +175,7 @@ module _ (Name : ℕ → Type 0) where
   last-text : {m b : ℕ} {xs : List Passed} → Links m b xs → any_text xs ≡ true → (x : Passed) → Last m b (last_text x xs) (after_text xs)
   unfolding any_text last_text after_text
   last-text ends k x = absurd (false≢true k)
-  last-text (link {x = y} {xs} h t) k x = rw k (last_of h (λ j. sym (or_false (is_text y)) ∙ (rw j at k)) t (λ j. last-text t j y))
+  last-text (link {x = y} {xs} h t) k x = rw k (last_of h (λ j. sym (or-false (is_text y)) ∙ (rw j at k)) t (λ j. last-text t j y))
 
   -- where all text is data, what stands from the first to the last of it is one piece
   row_inner_tiles : ((n : ℕ) → Name n → text_name n ≡ true → n ≡ Data) → {a b : ℕ} {xs : List Passed} → Links a b xs → Tiles a b (row_inner xs)
@@ -289,7 +289,7 @@ unfolding body_rows placed last_exit
 bodies kind e p l [] h = stop
 bodies kind e p l (m ∷ ls) h =
     by_cases (λ z. Bodies e.index (last_exit e z).index z) (closes kind m.body) (λ f. stop)
-    (λ f. row (rw h (line_end_tile (starting p l))) (text_row_links kind (onward p l) m.body) (bodies kind _ (onward p l) m ls refl))
+    (λ f. row (rw h (line_end_tile (starting p l))) (text_row_links kind (onward p l) m.body) (bodies kind (leave GfmTableRow (past (onward p l) m.body)) (onward p l) m ls refl))
 
 pub record TableTiles (t : Table) : Type 0 where
   pub raw : Tiles t.entry.index (last_end t) (raw_table t)
@@ -307,5 +307,5 @@ table_tiles kind on p l d ls =
           (skip refl
           (tiles_append (text_tiles head)
           (tile (line_end_tile (starting p l))
-          (tiles_append (resolved_row_tiles _ GfmTableDelimiterCell refl delimiter_inner (λ a b xs. delimiter_inner_tiles _) under) (skip refl (resolved_body_tiles _ body))))));
+          (tiles_append (resolved_row_tiles _ GfmTableDelimiterCell refl delimiter_inner (λ a b xs. delimiter_inner_tiles _) under) (skip refl (resolved_body_tiles (leave GfmTableDelimiterRow (past q d.body)) body))))));
     }

@@ -46,9 +46,9 @@ module _ (kind : ℕ → ℕ) (R : Point → Point → Type 0) (K : Kept R) wher
   pub passed_alike : {p q : Point} → R p q → (xs : List Piece) → Each (AlikePassed R) (passed p xs) (passed q xs)
   unfolding passed
   passed_alike h [] = none
-  passed_alike h (x ∷ xs) =
+  passed_alike {p} {q} h (x ∷ xs) =
       let k = K.along _ _ x.text h in
-      more (record { entry = enter_alike R x.name h; exit = leave_alike R x.name k }) (passed_alike k xs)
+      more (record { entry = enter_alike R x.name h; exit = leave_alike R x.name k }) (passed_alike {p = past p x.text} {q = past q x.text} k xs)
 
   row_at_alike : (n : ℕ) (pieces : List ℕ → List Piece) {p q : Point} → R p q → (u : List ℕ) → AlikeRow R (row_at n pieces p u) (row_at n pieces q u)
   row_at_alike n pieces h u = record { entry = enter_alike R n h; pieces = passed_alike h (pieces u); exit = leave_alike R n (K.along _ _ u h) }
@@ -66,16 +66,16 @@ module _ (kind : ℕ → ℕ) (R : Point → Point → Type 0) (K : Kept R) wher
       → Each (AlikeBody R) (body_rows kind (starting p l) (placed (onward p l) ls)) (body_rows kind (starting q l) (placed (onward q l) ls))
   unfolding body_rows placed
   body_rows_alike h l [] = none
-  body_rows_alike h l (m ∷ ls) =
+  body_rows_alike {p} {q} h l (m ∷ ls) =
       let k = onward-kept h l in
-      each_cond {b = closes kind m.body} refl none (more (record { before = line_end_alike h l; row = text_row_alike k m.body }) (body_rows_alike k m ls))
+      each_cond {b = closes kind m.body} refl none (more (record { before = line_end_alike h l; row = text_row_alike k m.body }) (body_rows_alike {p = onward p l} {q = onward q l} k m ls))
 
   -- body rows alone, whatever lines stand before them
   pub rows_alike : (k m : Placed) {p q : Point} → R p q → (ls : List Line)
       → Each (λ b c. AlikeRow R b.row c.row) (body_rows kind k (placed p ls)) (body_rows kind m (placed q ls))
   unfolding body_rows placed
   rows_alike k m h [] = none
-  rows_alike k m h (l ∷ ls) = each_cond {b = closes kind l.body} refl none (more (text_row_alike h l.body) (rows_alike _ _ (onward-kept h l) ls))
+  rows_alike k m {p} {q} h (l ∷ ls) = each_cond {b = closes kind l.body} refl none (more (text_row_alike h l.body) (rows_alike (starting p l) (starting q l) {p = onward p l} {q = onward q l} (onward-kept h l) ls))
 
   found_alike : (on : Bool) {p q : Point} → R p q → (l d : Line) (ls : List Line) → AlikeFound R (found_at kind on p l d ls) (found_at kind on q l d ls)
   found_alike on h l d ls =

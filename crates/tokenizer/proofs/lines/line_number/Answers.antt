@@ -20,8 +20,8 @@ loop-i-preserved c =
     let s = c.args.s.now in
     let e = c.ends_line.ensures in
     elim c.if-ends_line.branch [
-      then-ends_line w ↦ (omega arith, omega (arith, ends_more s l.i (omega arith) (sym e ∙ w.if-ends_line.true)))
-    | else-ends_line w ↦ (omega arith, omega (arith, ends_same s l.i (omega arith) (sym e ∙ w.if-ends_line.false)))
+      | then-ends_line w ↦ (omega arith, omega (arith, ends_more s l.i (omega arith) (sym e ∙ w.if-ends_line.true)))
+      | else-ends_line w ↦ (omega arith, omega (arith, ends_same s l.i (omega arith) (sym e ∙ w.if-ends_line.false)))
     ]
 
 pub returns : goal.returns

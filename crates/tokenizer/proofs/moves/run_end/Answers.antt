@@ -1,10 +1,10 @@
 -- `moves::run_end` meets its contract: after each byte the run ends where it ended before. The measure is the bytes left.
 -- Assumes nothing.
-use mathlib.Core.Path.{refl, sym, ◌∙◌}
+use mathlib.Core.Path.{sym, ◌∙◌}
 use native.Mathlib.Omega.{arith}
 use Rattle.tokenizer.specs.Bytes.{kind_in}
 use Rattle.tokenizer.specs.Moves.{run_of}
-use Rattle.tokenizer.proofs.Ahead.{goes, run_end, end_none, end_over, over_inside, run_stops}
+use Rattle.tokenizer.proofs.Ahead.{goes, end_none, end_over, over_inside, run_stops}
 use Rattle.tokenizer.proofs.Runs.{run_on}
 use Rattle.tokenizer.proofs.moves.run_end.Goals as goal
 

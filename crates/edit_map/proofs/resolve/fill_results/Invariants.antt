@@ -1,0 +1,12 @@
+-- The slots up to a place are written, and what the stream makes of the rest is what it makes of all.
+use Rattle.std.proofs.Common.{◌≡◌, ◌-◌, ◌++◌, length, take, drop}
+use Rattle.edit_map.specs.Cursors.{stepped, cursor_after}
+use Rattle.edit_map.proofs.resolve.fill_results.Given as goal
+
+abbrev pub invariant-loop-i : goal.invariant-loop-i
+invariant-loop-i l =
+    (take l.i l.results ++ stepped l.list l.cur (drop l.i l.results) ≡ stepped l.list l.fn.c l.initial.results)
+    × (cursor_after l.list (length l.initial.results - l.i) l.cur ≡ cursor_after l.list (length l.initial.results) l.fn.c)
+
+abbrev pub decreases-loop-i : goal.decreases-loop-i
+decreases-loop-i l = length l.initial.results - l.i

@@ -1,0 +1,11 @@
+-- `align::mark_at` meets its contract.
+-- Assumes nothing.
+use Rattle.tokenizer.specs.Bytes.{kind_in}
+use Rattle.sheet.specs.Aligning.{line_from}
+use Rattle.sheet.proofs.Aligning.{marked_by}
+use Rattle.sheet.proofs.align.mark_at.Goals as goal
+
+pub returns : goal.returns
+returns c =
+    let a = c.args in
+    rw c.align_of.ensures (marked_by (kind_in a.kinds.now) (line_from a.s.now a.at) a.at _ c.scan_stretch-e.ensures)

@@ -1,0 +1,15 @@
+-- `align::scan_stretch` meets its contract: after each byte the ends of the rest, added, are those of the stretch.
+-- Assumes nothing.
+use Rattle.std.proofs.Common.{◌≡◌, ◌≤◌, length, ◌-◌}
+use Rattle.tokenizer.specs.Bytes.{kind_in}
+use Rattle.gfm_table.specs.Delimiters.{stretch}
+use Rattle.sheet.specs.Aligning.{line_from, ends_past}
+use Rattle.sheet.proofs.align.scan_stretch.Given as goal
+
+abbrev pub invariant-loop-e : goal.invariant-loop-e
+invariant-loop-e l =
+    (l.e.end ≤ length l.s)
+    × (ends_past (kind_in l.kinds) l.e (stretch (kind_in l.kinds) (line_from l.s l.e.end)) ≡ ends_past (kind_in l.kinds) l.initial.e (stretch (kind_in l.kinds) (line_from l.s l.initial.e.end)))
+
+abbrev pub decreases-loop-e : goal.decreases-loop-e
+decreases-loop-e l = length l.s - l.e.end
