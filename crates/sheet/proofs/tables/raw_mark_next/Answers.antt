@@ -4,11 +4,19 @@ use Rattle.std.proofs.Common.{ap}
 use Rattle.tokenizer.specs.Bytes.{kind_in}
 use Rattle.tokenizer.specs.Places.{end_of}
 use Rattle.tokenizer.specs.Moves.{after}
+use Rattle.tokenizer.proofs.Ends.{after-inside}
 use Rattle.gfm_table.specs.declared.stream.Part.TheVariants.{Delimiter}
 use Rattle.sheet.specs.From.{here}
 use Rattle.sheet.specs.Placing.{point_at, written_at}
-use Rattle.sheet.proofs.Placing.{next_slot, next-made}
+use Rattle.sheet.proofs.Placing.{next-few, next_slot, next-made}
 use Rattle.sheet.proofs.tables.raw_mark_next.Goals as goal
+
+pub raw_mark_row-requires : goal.raw_mark_row-requires
+raw_mark_row-requires c =
+    let a = c.args in
+    let k = kind_in a.kinds.now in
+    let s = a.s.now in
+    rw c.below-b.ensures (after-inside s (point_at a.w) c.requires.1 c.requires.0.inside, (next-few k s Delimiter a.w c.requires.0 c.requires.2).1, c.requires.3)
 
 pub returns : goal.returns
 returns c =
