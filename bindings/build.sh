@@ -3,7 +3,7 @@
 set -e
 cd "$(dirname "$0")/.."
 
-rt staticlib poolsheet
+sh bindings/library.sh
 
 mkdir -p target/examples
 ${CC:-cc} -std=c99 -O2 -Wall -Wextra -Werror -pedantic -Iinclude examples/column.c target/staticlib/libpoolsheet.a -o target/examples/column

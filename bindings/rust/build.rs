@@ -11,7 +11,7 @@ fn main() {
     let archive = folder.join("libpoolsheet.a");
     println!("cargo::rerun-if-changed={}", archive.display());
     if !archive.is_file() {
-        panic!("{} is missing: run `rt staticlib poolsheet`, or name its folder in POOLSHEET_LIB", archive.display());
+        panic!("{} is missing: run `sh bindings/library.sh`, or name its folder in POOLSHEET_LIB", archive.display());
     }
     println!("cargo::rustc-link-search=native={}", folder.display());
     println!("cargo::rustc-link-lib=static=poolsheet");
