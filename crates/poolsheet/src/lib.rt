@@ -58,11 +58,7 @@ pub fn poolsheet_row(
 }
 
 // The result events of a list of raw tables. Counts: events.
-pub fn poolsheet_resolve(
-    list: &[Event],
-    results: &mut [Event],
-    counts: &mut [usize; 1],
-) -> u8
+pub fn poolsheet_resolve(list: &[Event], results: &mut [Event], counts: &mut [usize; 1]) -> u8
     ensures { (result ≡ number_of_resolved (resolve_answer list.now (length results.old)))
         × ((results.new ≡ resolve_slots list.now (length results.old))
         × (counts.new ≡ counts_of_resolved (resolve_answer list.now (length results.old)))) }
