@@ -1,4 +1,4 @@
-// The line protocol of the kept answers (harness/README.md): words of a request are read, and an answer is written to standard output.
+// The line protocol of the kept answers (harness/README.md): words of a request are read, and an answer is written.
 #![tactic(auto)]
 
 pub mod input;

@@ -1,4 +1,4 @@
-// An answer, written to what is given for it.
+// An answer, written to a writer.
 ghost use Rattle.std.specs.Prelude.{◌≡◌, ◌≤◌};
 ghost use Rattle.protocol.specs.Records.{is_blank};
 
