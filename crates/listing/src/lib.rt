@@ -8,7 +8,7 @@ use protocol::print;
 use sheet::calls::Sheet;
 use sheet_buffers::read_small;
 use std::io;
-use std::io::{BufWriter, Write};
+use std::io::Write;
 use tokenizer::event::{Event, Name};
 use tokenizer::kinds::builtin;
 
@@ -256,10 +256,10 @@ fn sheet_listed(out: &mut impl Write, text: &[u8]) -> io::Result<()> {
 }
 
 // Reads the sheet and lists it.
-pub fn run(rt: &(impl Input + Print + Alloc)) -> io::Result<()> {
+pub fn run(rt: &(impl Input + Print)) -> io::Result<()> {
     let mut text = [0u8; 4097];
     let n = fill(&mut rt.reader(), &mut text)?;
-    let mut out = BufWriter::new(rt.alloc(), io::writer(rt))?;
+    let mut out = io::writer(rt);
     if 4096 < n {
         refused(&mut out, 1)?;
     } else {

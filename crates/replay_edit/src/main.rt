@@ -7,7 +7,7 @@ use protocol::lists::{ReadEvents, ReadNumbers, events, numbers};
 use protocol::print;
 use protocol::words::{after, line_stop, number};
 use std::io;
-use std::io::{BufWriter, Read, Write};
+use std::io::{Read, Write};
 
 // The answer to a readable request.
 fn answer_read(
@@ -107,7 +107,7 @@ fn replay_parts(input: &mut impl Read, out: &mut impl Write, text: &mut [u8]) ->
 
 fn main(rt: HostRuntime) -> io::Result<()> {
     let mut text = [0u8; 65536];
-    let mut out = BufWriter::new(rt.alloc(), io::writer(&rt))?;
+    let mut out = io::writer(&rt);
     replay_parts(&mut rt.reader(), &mut out, &mut text)?;
     out.flush()
 }

@@ -6,7 +6,7 @@ use protocol::input::fill;
 use protocol::print;
 use protocol::words::{after, bytes, flag, line_stop, number};
 use std::io;
-use std::io::{BufWriter, Write};
+use std::io::Write;
 
 // The answer to one request, without its line end.
 fn answer(out: &mut impl Write, line: &[u8]) -> io::Result<()> {
@@ -50,7 +50,7 @@ fn replay(out: &mut impl Write, text: &[u8]) -> io::Result<()> {
 fn main(rt: HostRuntime) -> io::Result<()> {
     let mut text = [0u8; 131072];
     let n = fill(&mut rt.reader(), &mut text)?;
-    let mut out = BufWriter::new(rt.alloc(), io::writer(&rt))?;
+    let mut out = io::writer(&rt);
     replay(&mut out, &text[..n])?;
     out.flush()
 }

@@ -8,7 +8,7 @@ use protocol::input::fill;
 use protocol::print;
 use protocol::words::{after, bytes, line_stop, next_word, number, stop_at};
 use std::io;
-use std::io::{BufWriter, Write};
+use std::io::Write;
 use tokenizer::kinds::builtin;
 
 // The built-in table, and zeros behind it.
@@ -107,7 +107,7 @@ fn replay(out: &mut impl Write, text: &[u8]) -> io::Result<()> {
 fn main(rt: HostRuntime) -> io::Result<()> {
     let mut text = [0u8; 32768];
     let n = fill(&mut rt.reader(), &mut text)?;
-    let mut out = BufWriter::new(rt.alloc(), io::writer(&rt))?;
+    let mut out = io::writer(&rt);
     replay(&mut out, &text[..n])?;
     out.flush()
 }

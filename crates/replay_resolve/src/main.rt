@@ -7,7 +7,7 @@ use protocol::lists::events;
 use protocol::print;
 use protocol::words::{after, line_stop, number};
 use std::io;
-use std::io::{BufWriter, Read, Write};
+use std::io::{Read, Write};
 
 // The answer to one request, without its line end.
 fn answer(out: &mut impl Write, line: &[u8]) -> io::Result<()> {
@@ -64,7 +64,7 @@ fn replay_parts(input: &mut impl Read, out: &mut impl Write, text: &mut [u8]) ->
 
 fn main(rt: HostRuntime) -> io::Result<()> {
     let mut text = [0u8; 65536];
-    let mut out = BufWriter::new(rt.alloc(), io::writer(&rt))?;
+    let mut out = io::writer(&rt);
     replay_parts(&mut rt.reader(), &mut out, &mut text)?;
     out.flush()
 }

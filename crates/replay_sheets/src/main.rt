@@ -5,7 +5,7 @@ use protocol::input::fill;
 use protocol::print;
 use protocol::words::{after, line_stop};
 use std::io;
-use std::io::{BufWriter, Write};
+use std::io::Write;
 use tokenizer::kinds::builtin;
 
 // The answer to one request, without its line end.
@@ -29,7 +29,7 @@ fn replay(out: &mut impl Write, text: &[u8]) -> io::Result<()> {
 fn main(rt: HostRuntime) -> io::Result<()> {
     let mut text = [0u8; 262144];
     let n = fill(&mut rt.reader(), &mut text)?;
-    let mut out = BufWriter::new(rt.alloc(), io::writer(&rt))?;
+    let mut out = io::writer(&rt);
     replay(&mut out, &text[..n])?;
     out.flush()
 }

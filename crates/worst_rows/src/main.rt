@@ -9,7 +9,7 @@ use buffers::{head_long, row_long};
 use gfm_table::calls::{Head, Row};
 use protocol::print;
 use std::io;
-use std::io::{BufWriter, Write};
+use std::io::Write;
 
 // The k-th of two bytes in turn.
 fn turn(k: usize, a: u8, b: u8) -> u8 {
@@ -148,7 +148,7 @@ fn too_long(out: &mut impl Write) -> io::Result<()> {
 
 // In turn: `|`, `a|`, `a`, backslashes, `a` and a space, tabs, `-|`, `-`.
 fn main(rt: HostRuntime) -> io::Result<()> {
-    let mut out = BufWriter::new(rt.alloc(), io::writer(&rt))?;
+    let mut out = io::writer(&rt);
     worst(&mut out, 124, 124)?;
     worst(&mut out, 97, 124)?;
     worst(&mut out, 97, 97)?;

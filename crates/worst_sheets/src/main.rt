@@ -9,7 +9,7 @@ use sheet::calls::Sheet;
 use sheet_long::read_long;
 use sheet_protocol::sheet;
 use std::io;
-use std::io::{BufWriter, Write};
+use std::io::Write;
 
 // The byte at a place of a pattern.
 fn byte_of(pattern: &[u8], j: usize) -> u8 {
@@ -205,7 +205,7 @@ fn others(out: &mut impl Write) -> io::Result<()> {
 }
 
 fn main(rt: HostRuntime) -> io::Result<()> {
-    let mut out = BufWriter::new(rt.alloc(), io::writer(&rt))?;
+    let mut out = io::writer(&rt);
     all_over(&mut out)?;
     all_under(&mut out)?;
     others(&mut out)?;
