@@ -6,7 +6,7 @@ usage: python3 tools/snake_names.py [--list]      at the top of the repository, 
 A function that was written in camel case gets snake case, as `isEnd` -> `is_end`; types, records and facts keep their capital. A dash in the name of a
 lemma stays where it joins the names of two definitions, as in `row_pieces-names`, and is an underscore elsewhere. Functions of src/, exported names,
 strings, inputs and outputs keep their names. It reads what specs/ and proofs/ declare, and writes each use in .antt files, in clauses and in
-`ghost use` lines. A name that would fall together with another is listed by name in APART.
+`ghost use` lines. A name that would fall together with another of its module, or of a file that names both, is listed by name in APART.
 """
 
 import glob
