@@ -1,4 +1,4 @@
-// The head's counter `size_b` (request U4). Only whether it is above 1 is asked, so it counts no further than 2.
+// The head's counter `size_b` in 8 bits (request U4), for the row machine to count by. Only whether it is above 1 is asked, so it goes no further than 2.
 ghost use Rattle.std.specs.Prelude.{◌≡◌};
 ghost use Rattle.gfm_table.specs.HeadCount.{saturating_inc};
 
