@@ -3,6 +3,7 @@ pub mod Tallies
 pub mod Points
 pub mod Events
 pub mod Slots
+pub mod Refusals
 pub mod Lines
 pub mod Moves
 pub mod Places

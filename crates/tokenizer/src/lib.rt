@@ -7,4 +7,5 @@ pub mod kinds;
 pub mod lines;
 pub mod moves;
 pub mod partial_space_or_tab;
+pub mod refusal;
 pub mod slots;
