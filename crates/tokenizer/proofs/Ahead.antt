@@ -8,7 +8,7 @@ use native.Mathlib.Nat.{add-zero, add_assoc}
 use native.Mathlib.Numerals.{add-one}
 use native.Mathlib.Omega.{arith}
 use lib.Dec.{eqb}
-use lib.ListN.{length, drop, get_or, length-append, length-drop}
+use lib.ListN.{length, drop, get_or, length-append, length-drop, drop_of_length-le}
 use lib.Seq.{drop-cons, drop-drop}
 use Rattle.tokenizer.specs.declared.event.Point.{Point}
 use Rattle.tokenizer.specs.Bytes.{is_end, Reads}
@@ -48,6 +48,11 @@ module _ {kind : ℕ → ℕ} (ok : Reads kind) where
       let d : drop i s ≡ get_or s i 0 ∷ drop (i + 1) s = rw (add-one, drop-cons s i 0) in
       let q : k ≡ kind (get_or s i 0) = e ∙ ap (ahead_of kind) d in
       record { below = l; line = ap line_body d ∙ goes_on_lem (get_or s i 0) (drop (i + 1) s) (λ z. h (q ∙ z)); is = sym q }
+
+-- behind the sheet's last byte nothing is left of the line
+pub past_last : (s : List ℕ) (i : ℕ) → length s ≤ i → line_body (drop i s) ≡ []
+unfolding line_body
+past_last s i l = rw (drop_of_length-le s l)
 
 -- ## Points
 

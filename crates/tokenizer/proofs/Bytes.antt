@@ -1,10 +1,11 @@
 -- Kinds and line ends.
 -- Assumes nothing.
-use Prim.Native.Nat.{ℕ}
+use Prim.Native.Nat.{ℕ, ◌≤◌}
 use mathlib.Core.Path.{◌≡◌, refl, sym, ◌∙◌}
 use mathlib.Core.Bool.{Bool, true, false, cond, ◌||◌}
 use borrow.Author.Tests.{eq-eqb, ne_eqb, eqb-true}
 use lib.Dec.{eqb}
+use Rattle.std.proofs.Common.{lit≤}
 use Rattle.tokenizer.specs.Bytes.{kind_of, is_end, Reads}
 
 -- ## The built-in kinds
@@ -35,6 +36,20 @@ ones false false false true x y = refl
 ones false false false false true y = refl
 ones false false false false false true = refl
 ones false false false false false false = refl
+
+mosts : (s t v w x y : Bool) → cond s 1 (cond t 2 (cond v 3 (cond w 4 (cond x 5 (cond y 6 0))))) ≤ 6
+mosts true t v w x y = lit≤ tt
+mosts false true v w x y = lit≤ tt
+mosts false false true w x y = lit≤ tt
+mosts false false false true x y = lit≤ tt
+mosts false false false false true y = lit≤ tt
+mosts false false false false false true = lit≤ tt
+mosts false false false false false false = lit≤ tt
+
+-- no kind is above 6
+pub most : (b : ℕ) → kind_of b ≤ 6
+unfolding kind_of
+most b = mosts (eqb b 9 || eqb b 32) (eqb b 10 || eqb b 13) (eqb b 124) (eqb b 92) (eqb b 45) (eqb b 58)
 
 pub built : Reads kind_of
 unfolding kind_of

@@ -4,6 +4,7 @@ pub mod Bytes
 pub mod KindTables
 pub mod Runs
 pub mod Ahead
+pub mod SameKinds
 pub mod Ends
 pub mod Places
 pub mod Starts

@@ -1,5 +1,16 @@
 -- The kinds of bytes.
 use Rattle.std.specs.Prelude.{ℕ, zero, suc, ◌+◌, ◌≤◌, ◌≡◌, List, [], ◌∷◌, Bool, true, cond, ◌||◌, ◌&&◌, not, eqb, leb, length, get_or}
+use Rattle.tokenizer.specs.declared.kinds.Kind.{Kind}
+
+-- the number of a kind
+abbrev pub kind_number : Kind → ℕ
+kind_number Kind.Other = 0
+kind_number Kind.Space = 1
+kind_number Kind.End = 2
+kind_number Kind.Pipe = 3
+kind_number Kind.Backslash = 4
+kind_number Kind.Hyphen = 5
+kind_number Kind.Colon = 6
 
 -- 1 tab or space, 2 line end, 3 pipe, 4 backslash, 5 hyphen, 6 colon, 0 any other byte
 unfoldable pub kind_of : ℕ → ℕ

@@ -2,6 +2,7 @@
 use Rattle.std.specs.Prelude.{ℕ}
 use Rattle.tokenizer.specs.declared.event.Point.{Point}
 use Rattle.tokenizer.specs.declared.event.Event.{Event}
+use Rattle.tokenizer.specs.declared.event.Name.{Name}
 
 abbrev pub SpaceOrTab : ℕ
 SpaceOrTab = 1
@@ -47,6 +48,24 @@ GfmTableDelimiterCellValue = 14
 
 abbrev pub GfmTableDelimiterFiller : ℕ
 GfmTableDelimiterFiller = 15
+
+-- the number of a name
+abbrev pub number : Name → ℕ
+number Name.SpaceOrTab = 1
+number Name.LineEnding = 2
+number Name.Data = 3
+number Name.GfmTable = 4
+number Name.GfmTableBody = 5
+number Name.GfmTableHead = 6
+number Name.GfmTableRow = 7
+number Name.GfmTableCell = 8
+number Name.GfmTableCellText = 9
+number Name.GfmTableCellDivider = 10
+number Name.GfmTableDelimiterRow = 11
+number Name.GfmTableDelimiterMarker = 12
+number Name.GfmTableDelimiterCell = 13
+number Name.GfmTableDelimiterCellValue = 14
+number Name.GfmTableDelimiterFiller = 15
 
 -- a slot that holds no event
 abbrev pub blank_event : Event

@@ -1,7 +1,6 @@
 -- Refusals: the questions of 01 and 02 by their numbers.
 use Rattle.std.specs.Prelude.{ℕ, cond, eqb, Result, Ok, Err}
 use Rattle.tokenizer.specs.declared.refusal.Refusal.{Refusal}
-use Rattle.tokenizer.specs.declared.refusal.Refusal.TheVariants as Refusal
 
 -- the number of the question that a refusal tells was answered no
 abbrev pub refusal_number : Refusal → ℕ

@@ -1,10 +1,9 @@
 -- Runs of whitespace by units.
-use Rattle.std.specs.Prelude.{ℕ, zero, suc, ◌+◌, ◌≡◌, List, Bool, true, false, cond, ◌&&◌, not, eqb, leb, drop}
+use Rattle.std.specs.Prelude.{ℕ, zero, suc, ◌+◌, ◌≡◌, List, Bool, false, cond, ◌&&◌, not, eqb, leb, drop, Option, Some, None}
 use Rattle.tokenizer.specs.declared.event.Point.{Point}
 use Rattle.tokenizer.specs.declared.feed.Byte.{Byte}
 use Rattle.tokenizer.specs.declared.feed.Byte.TheVariants.{At, End}
 use Rattle.tokenizer.specs.declared.feed.Feed.{Feed}
-use Rattle.tokenizer.specs.declared.partial_space_or_tab.Attempt.{Attempt}
 use Rattle.tokenizer.specs.Bytes.{kind_of}
 use Rattle.tokenizer.specs.Feed.{current_of, onward, feed_at, Fed}
 
@@ -31,12 +30,20 @@ unfoldable pub space_units : List ℕ → ℕ → Point → ℕ
 space_units s zero p = 0
 space_units s (suc n) p = cond (space_at s p) (1 + space_units s n (next_unit s p)) 0
 
--- whitespace of at least min and at most max units, or the feed as it was
-abbrev pub attempt_of : List ℕ → ℕ → ℕ → Point → Attempt
-attempt_of s min max p =
-    cond (leb min (space_units s max p))
-    (record { right = true; feed = feed_at s (spaces_past s max p) })
-    (record { right = false; feed = feed_at s p })
+-- whether there are at least min among at most max units of whitespace
+abbrev pub enough : List ℕ → ℕ → ℕ → Point → Bool
+enough s min max p = leb min (space_units s max p)
+
+-- an attempt at so much whitespace: the feed behind it, where there is so much
+abbrev pub attempt_of : List ℕ → ℕ → ℕ → Point → Option Feed
+attempt_of s min max p = cond (enough s min max p) (Some (feed_at s (spaces_past s max p))) None
+
+-- the feed after an attempt: behind the whitespace, or as it was kept
+abbrev pub after_attempt : List ℕ → ℕ → ℕ → Feed → Feed
+after_attempt s min max f =
+    cond (enough s min max f.point)
+    (feed_at s (spaces_past s max f.point))
+    f
 
 -- whether no whitespace is read behind at most n units of it
 abbrev pub space_ends : List ℕ → ℕ → Point → Bool

@@ -1,11 +1,11 @@
 // Points and events, and the names of events.
 ghost use Rattle.std.specs.Prelude.{◌≡◌, [], ◌∷◌, ◌<◌, ◌≤◌};
 ghost use Rattle.tokenizer.specs.Points.{start, past, next_line};
-ghost use Rattle.tokenizer.specs.Events.{blank_event, enter, leave};
+ghost use Rattle.tokenizer.specs.Events.{blank_event, number, enter, leave};
 
 // A place in the sheet. Lines and columns count from 1; `vs` counts the units passed inside a tab.
 #[repr(C)]
-#[derive(Clone, Copy)]
+#[derive(Clone, Copy, PartialEq, Eq)]
 pub struct Point {
     pub line: u32,
     pub column: u32,
@@ -13,9 +13,10 @@ pub struct Point {
     pub vs: u8,
 }
 
-// A kind (0 blank, 1 enter, 2 exit), a name, a point, and a link (0 none, 1 text).
+// A kind (0 blank, 1 enter, 2 exit), a name, a point, and a link (0 none, 1 text). They are numbers, since the record is C's, and a list that is
+// lent may hold any.
 #[repr(C)]
-#[derive(Clone, Copy)]
+#[derive(Clone, Copy, PartialEq, Eq)]
 pub struct Event {
     pub kind: u8,
     pub name: u8,
@@ -27,39 +28,23 @@ pub struct Event {
 }
 
 // The names of events, by the numbers of 01.
-#[derive(Clone, Copy)]
-pub struct Name {}
-
-impl Name {
-    pub const SpaceOrTab: u8 = 1;
-
-    pub const LineEnding: u8 = 2;
-
-    pub const Data: u8 = 3;
-
-    pub const GfmTable: u8 = 4;
-
-    pub const GfmTableBody: u8 = 5;
-
-    pub const GfmTableHead: u8 = 6;
-
-    pub const GfmTableRow: u8 = 7;
-
-    pub const GfmTableCell: u8 = 8;
-
-    pub const GfmTableCellText: u8 = 9;
-
-    pub const GfmTableCellDivider: u8 = 10;
-
-    pub const GfmTableDelimiterRow: u8 = 11;
-
-    pub const GfmTableDelimiterMarker: u8 = 12;
-
-    pub const GfmTableDelimiterCell: u8 = 13;
-
-    pub const GfmTableDelimiterCellValue: u8 = 14;
-
-    pub const GfmTableDelimiterFiller: u8 = 15;
+#[derive(Clone, Copy, PartialEq, Eq)]
+pub enum Name {
+    SpaceOrTab = 1,
+    LineEnding = 2,
+    Data = 3,
+    GfmTable = 4,
+    GfmTableBody = 5,
+    GfmTableHead = 6,
+    GfmTableRow = 7,
+    GfmTableCell = 8,
+    GfmTableCellText = 9,
+    GfmTableCellDivider = 10,
+    GfmTableDelimiterRow = 11,
+    GfmTableDelimiterMarker = 12,
+    GfmTableDelimiterCell = 13,
+    GfmTableDelimiterCellValue = 14,
+    GfmTableDelimiterFiller = 15,
 }
 
 impl Point {
@@ -88,19 +73,19 @@ impl Point {
         requires { (self.column < 1000000) × (self.index < 1000000) }
         ensures { result ≡ past self (b ∷ []) }
     {
-        if b == 9 {
+        if b == b'\t' {
             return Point {
-                line: self.line,
                 column: (self.column + (Self::TAB_STOP - 1)) / Self::TAB_STOP * Self::TAB_STOP + 1,
                 index: self.index + 1,
                 vs: 0,
+                ..self
             };
         }
         Point {
-            line: self.line,
             column: self.column + 1,
             index: self.index + 1,
             vs: 0,
+            ..self
         }
     }
 
@@ -137,12 +122,12 @@ impl Event {
     }
 
     // A name is entered at a point.
-    pub fn enter(name: u8, p: Point) -> Self
-        ensures { result ≡ enter name p }
+    pub fn enter(name: Name, p: Point) -> Self
+        ensures { result ≡ enter (number name) p }
     {
         Event {
             kind: 1,
-            name,
+            name: name as u8,
             line: p.line,
             column: p.column,
             index: p.index,
@@ -152,12 +137,12 @@ impl Event {
     }
 
     // A name is left at a point.
-    pub fn exit(name: u8, p: Point) -> Self
-        ensures { result ≡ leave name p }
+    pub fn exit(name: Name, p: Point) -> Self
+        ensures { result ≡ leave (number name) p }
     {
         Event {
             kind: 2,
-            name,
+            name: name as u8,
             line: p.line,
             column: p.column,
             index: p.index,

@@ -1,12 +1,12 @@
 // The feed: a point and the byte that is read there, moved unit by unit, by value or lent and in place. An attempt is a kept copy of it.
 ghost use Rattle.std.specs.Prelude.{◌≡◌, ◌<◌, drop};
-ghost use Rattle.tokenizer.specs.Events.{enter, leave};
+ghost use Rattle.tokenizer.specs.Events.{number, enter, leave};
 ghost use Rattle.tokenizer.specs.Feed.{unit_of, current_of, tab_unit, onward, feed_at, inside_end, back, Fed};
 
-use crate::event::{Event, Point};
+use crate::event::{Event, Name, Point};
 use crate::lines::line_end;
 
-// The byte that is read at a point, or the end of the sheet.
+// The byte that is read at a point, or the end of the sheet. Not an `Option`: 01 names this form for the current byte.
 #[derive(Clone, Copy)]
 pub enum Byte {
     At(u8),
@@ -23,15 +23,11 @@ pub struct Feed {
 pub fn unit(b: u8, vs: u8) -> u8
     ensures { result ≡ unit_of vs b }
 {
-    if b == 13 {
-        return 10;
+    match b {
+        b'\r' => b'\n',
+        b'\t' if vs != 0 => b' ',
+        _ => b,
     }
-    if b == 9 {
-        if vs != 0 {
-            return 32;
-        }
-    }
-    b
 }
 
 impl Point {
@@ -42,17 +38,16 @@ impl Point {
     {
         if self.column % Self::TAB_STOP == 0 {
             return Point {
-                line: self.line,
                 column: self.column + 1,
                 index: self.index + 1,
                 vs: 0,
+                ..self
             };
         }
         Point {
-            line: self.line,
             column: self.column + 1,
-            index: self.index,
             vs: self.vs + 1,
+            ..self
         }
     }
 
@@ -66,8 +61,8 @@ impl Point {
             return self;
         }
         match s[i] {
-            9 => self.tab_unit(),
-            10 | 13 => self.next_line(line_end(s, i)),
+            b'\t' => self.tab_unit(),
+            b'\n' | b'\r' => self.next_line(line_end(s, i)),
             _ => self.over(s[i]),
         }
     }
@@ -78,10 +73,8 @@ impl Point {
     {
         if inside_end(s, self.index as usize) {
             return Point {
-                line: self.line,
-                column: self.column,
                 index: self.index - 1,
-                vs: self.vs,
+                ..self
             };
         }
         self
@@ -92,16 +85,7 @@ impl Point {
 pub fn inside_end(s: &[u8], i: usize) -> bool
     ensures { result ≡ inside_end s.now i }
 {
-    if i == 0 {
-        return false;
-    }
-    if s.len() <= i {
-        return false;
-    }
-    if s[i] != 10 {
-        return false;
-    }
-    s[i - 1] == 13
+    0 < i && i < s.len() && s[i] == b'\n' && s[i - 1] == b'\r'
 }
 
 // The byte that is read at a point.
@@ -142,16 +126,16 @@ impl Feed {
     }
 
     // A name is entered here.
-    pub fn enter(self, s: &[u8], name: u8) -> Event
-        ensures { result ≡ enter name (back s.now self.point) }
+    pub fn enter(self, s: &[u8], name: Name) -> Event
+        ensures { result ≡ enter (number name) (back s.now self.point) }
     {
         let p = self.point;
         Event::enter(name, p.back(s))
     }
 
     // A name is left here.
-    pub fn exit(self, s: &[u8], name: u8) -> Event
-        ensures { result ≡ leave name (back s.now self.point) }
+    pub fn exit(self, s: &[u8], name: Name) -> Event
+        ensures { result ≡ leave (number name) (back s.now self.point) }
     {
         let p = self.point;
         Event::exit(name, p.back(s))

@@ -1,19 +1,22 @@
 // The kind of each byte value: 01's table, which is built in, and a lent one (02, U9).
-ghost use Rattle.std.specs.Prelude.{◌≡◌, ◌&&◌, ◌<◌, ◌+◌, length};
-ghost use Rattle.tokenizer.specs.Bytes.{kind_of, built_in, kind_in, Passes, exact, kinds_refusal};
-ghost use Rattle.tokenizer.specs.Tallies.{one_if, tally_step, tallied, no_tally, Few, single_by, refusal_by};
+ghost use Rattle.std.specs.Prelude.{◌≡◌, ◌≤◌, ◌<◌, length};
+ghost use Rattle.tokenizer.specs.Bytes.{kind_number, kind_of, built_in, kind_in, Passes, exact, kinds_refusal};
+ghost use Rattle.tokenizer.specs.Refusals.{answered};
+ghost use Rattle.tokenizer.specs.Tallies.{tally_step, tallied, no_tally, Few, single_by, refusal_by};
 
-pub const SPACE: u8 = 1;
+use crate::refusal::Refusal;
 
-pub const END: u8 = 2;
-
-pub const PIPE: u8 = 3;
-
-pub const BACKSLASH: u8 = 4;
-
-pub const HYPHEN: u8 = 5;
-
-pub const COLON: u8 = 6;
+// The kind of a byte, by the numbers of 01.
+#[derive(Clone, Copy, PartialEq, Eq)]
+pub enum Kind {
+    Other,
+    Space,
+    End,
+    Pipe,
+    Backslash,
+    Hyphen,
+    Colon,
+}
 
 const KINDS: [u8; 256] = [
     0, 0, 0, 0, 0, 0, 0, 0, 0, 1, 2, 0, 0, 2, 0, 0, 0, 0, 0, 0, 0, 0, 0, 0, 0, 0, 0, 0, 0, 0, 0, 0,
@@ -26,11 +29,30 @@ const KINDS: [u8; 256] = [
     0, 0, 0, 0, 0, 0, 0, 0, 0, 0, 0, 0, 0, 0, 0, 0, 0, 0, 0, 0, 0, 0, 0, 0, 0, 0, 0, 0, 0, 0, 0, 0,
 ];
 
-// The kind of a byte.
-pub fn kind(b: u8) -> u8
-    ensures { result ≡ kind_of b }
-{
-    KINDS[b as usize]
+impl Kind {
+    // The kind that has a number.
+    pub fn numbered(k: u8) -> Kind
+        requires { k ≤ 6 }
+        ensures { kind_number result ≡ k }
+    {
+        match k {
+            0 => Kind::Other,
+            1 => Kind::Space,
+            2 => Kind::End,
+            3 => Kind::Pipe,
+            4 => Kind::Backslash,
+            5 => Kind::Hyphen,
+            6 => Kind::Colon,
+            _ => unreachable!(),
+        }
+    }
+
+    // The kind of a byte by the built-in table.
+    pub fn of(b: u8) -> Kind
+        ensures { kind_number result ≡ kind_of b }
+    {
+        Kind::numbered(KINDS[b as usize])
+    }
 }
 
 // The table of 01, to lend.
@@ -41,11 +63,11 @@ pub fn builtin() -> [u8; 256]
 }
 
 // The kind of a byte by a table that is lent.
-pub fn kind_in(kinds: &[u8], b: u8) -> u8
+pub fn kind_in(kinds: &[u8], b: u8) -> Kind
     requires { Passes kinds.now }
-    ensures { result ≡ kind_in kinds.now b }
+    ensures { kind_number result ≡ kind_in kinds.now b }
 {
-    kinds[b as usize]
+    Kind::numbered(kinds[b as usize])
 }
 
 // What a pass over a table finds: whether no kind is above 6, whether kinds 1 and 2 are those of their bytes, and how many bytes each of
@@ -65,62 +87,15 @@ pub fn entry_exact(b: usize, k: u8) -> bool
     ensures { result ≡ exact b k }
 {
     match b {
-        9 | 32 => {
-            return k == SPACE;
-        }
-        10 | 13 => {
-            return k == END;
-        }
-        _ => {}
-    }
-    if k == SPACE {
-        return false;
-    }
-    k != END
-}
-
-// Whether both hold.
-pub fn both(a: bool, b: bool) -> bool
-    ensures { result ≡ a && b }
-{
-    if a {
-        return b;
-    }
-    false
-}
-
-// One more where a kind is the kind k.
-pub fn one_more(n: usize, j: u8, k: u8) -> usize
-    requires { n < 256 }
-    ensures { result ≡ n + one_if j k }
-{
-    if j == k {
-        return n + 1;
-    }
-    n
-}
-
-// One entry more: the byte b and its kind.
-pub fn tally_step(t: Tally, b: usize, k: u8) -> Tally
-    requires { Few t b × b < 256 }
-    ensures { result ≡ tally_step t b k }
-{
-    Tally {
-        known: both(t.known, k <= 6),
-        exact: both(t.exact, entry_exact(b, k)),
-        pipes: one_more(t.pipes, k, PIPE),
-        backslashes: one_more(t.backslashes, k, BACKSLASH),
-        hyphens: one_more(t.hyphens, k, HYPHEN),
-        colons: one_more(t.colons, k, COLON),
+        9 | 32 => k == Kind::Space as u8,
+        10 | 13 => k == Kind::End as u8,
+        _ => k != Kind::Space as u8 && k != Kind::End as u8,
     }
 }
 
-// All entries of a table, in one pass.
-pub fn tally_of(kinds: &[u8]) -> Tally
-    requires { length kinds.now ≡ 256 }
-    ensures { result ≡ tallied no_tally 0 kinds.now }
-{
-    let mut t = Tally {
+impl Tally {
+    // Before the first entry.
+    pub const NONE: Tally = Tally {
         known: true,
         exact: true,
         pipes: 0,
@@ -128,49 +103,68 @@ pub fn tally_of(kinds: &[u8]) -> Tally
         hyphens: 0,
         colons: 0,
     };
-    let mut b = 0;
-    while b < kinds.len() {
-        t = tally_step(t, b, kinds[b]);
-        b += 1;
-    }
-    t
-}
 
-// Question 22, where q is the kind of `>`.
-pub fn is_single(t: Tally, q: u8) -> bool
-    ensures { result ≡ single_by t q }
-{
-    both(
-        t.pipes == 1,
-        both(
-            t.backslashes == 1,
-            both(t.hyphens == 1, both(t.colons == 1, q == 0)),
-        ),
-    )
-}
-
-// Questions 20, 21 and 22 of a table of 256 entries: the number of the first answered no, or 0.
-pub fn tally_refusal(t: Tally, q: u8) -> u8
-    ensures { result ≡ refusal_by t q }
-{
-    if t.known {
-        if t.exact {
-            if is_single(t, q) {
-                return 0;
-            }
-            return 22;
+    // One entry more: the byte b and its kind.
+    pub fn step(self, b: usize, k: u8) -> Tally
+        requires { Few self b × b < 256 }
+        ensures { result ≡ tally_step self b k }
+    {
+        Tally {
+            known: self.known && k <= 6,
+            exact: self.exact && entry_exact(b, k),
+            pipes: self.pipes + usize::from(k == Kind::Pipe as u8),
+            backslashes: self.backslashes + usize::from(k == Kind::Backslash as u8),
+            hyphens: self.hyphens + usize::from(k == Kind::Hyphen as u8),
+            colons: self.colons + usize::from(k == Kind::Colon as u8),
         }
-        return 21;
     }
-    20
+
+    // All entries of a table, in one pass.
+    pub fn of(kinds: &[u8]) -> Tally
+        requires { length kinds.now ≡ 256 }
+        ensures { result ≡ tallied no_tally 0 kinds.now }
+    {
+        let mut t = Tally::NONE;
+        for (b, k) in kinds.iter().enumerate() {
+            t = t.step(b, *k);
+        }
+        t
+    }
+
+    // Question 22, where q is the kind of `>`.
+    pub fn is_single(self, q: u8) -> bool
+        ensures { result ≡ single_by self q }
+    {
+        self.pipes == 1
+            && self.backslashes == 1
+            && self.hyphens == 1
+            && self.colons == 1
+            && q == Kind::Other as u8
+    }
+
+    // Questions 20, 21 and 22 of a table of 256 entries: the first answered no.
+    pub fn asked(self, q: u8) -> Result<(), Refusal>
+        ensures { result ≡ answered (refusal_by self q) tt }
+    {
+        if !self.known {
+            return Err(Refusal::NoKindTable);
+        }
+        if !self.exact {
+            return Err(Refusal::WhitespaceKindsDiffer);
+        }
+        if !self.is_single(q) {
+            return Err(Refusal::PunctuationKindsDiffer);
+        }
+        Ok(())
+    }
 }
 
-// Questions 20, 21 and 22 of a table that is lent: the number of the first answered no, or 0.
-pub fn refusal(kinds: &[u8]) -> u8
-    ensures { result ≡ kinds_refusal kinds.now }
+// Questions 20, 21 and 22 of a table that is lent: the first answered no.
+pub fn asked(kinds: &[u8]) -> Result<(), Refusal>
+    ensures { result ≡ answered (kinds_refusal kinds.now) tt }
 {
-    if kinds.len() == 256 {
-        return tally_refusal(tally_of(kinds), kinds[62]);
+    if kinds.len() != 256 {
+        return Err(Refusal::NoKindTable);
     }
-    20
+    Tally::of(kinds).asked(kinds[b'>' as usize])
 }

@@ -9,3 +9,4 @@ pub mod moves;
 pub mod partial_space_or_tab;
 pub mod refusal;
 pub mod slots;
+pub mod text;

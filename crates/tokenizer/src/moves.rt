@@ -1,57 +1,73 @@
 // Moves over whole bytes of a line: a tab at once, and runs of one kind.
-ghost use Rattle.std.specs.Prelude.{◌≡◌, ◌<◌, length, drop};
-ghost use Rattle.tokenizer.specs.Bytes.{kind_in, Passes};
+ghost use Rattle.std.specs.Prelude.{◌≡◌, ◌<◌, ◌+◌, length, drop};
+ghost use Rattle.tokenizer.specs.Bytes.{kind_number, kind_in};
 ghost use Rattle.tokenizer.specs.Points.{past};
-ghost use Rattle.tokenizer.specs.Lines.{indent};
-ghost use Rattle.tokenizer.specs.Moves.{ahead_of, rest_of, over_at, run_of, Inside};
+ghost use Rattle.tokenizer.specs.Lines.{line_body, indent, blank};
+ghost use Rattle.tokenizer.specs.Moves.{rest_of, over_at, run_of, Inside};
 
 use crate::event::Point;
-use crate::kinds::kind_in;
-
-// The kind of the byte at a place; the end of the sheet counts as a line end.
-pub fn kind_at(s: &[u8], kinds: &[u8], at: usize) -> u8
-    requires { Passes kinds.now }
-    ensures { result ≡ ahead_of (kind_in kinds.now) (drop at s.now) }
-{
-    if at < s.len() {
-        return kind_in(kinds, s[at]);
-    }
-    2
-}
-
-// The same at a point.
-pub fn ahead(s: &[u8], kinds: &[u8], p: Point) -> u8
-    requires { Passes kinds.now }
-    ensures { result ≡ ahead_of (kind_in kinds.now) (drop p.index s.now) }
-{
-    kind_at(s, kinds, p.index as usize)
-}
+use crate::kinds::Kind;
+use crate::text::Text;
 
 // The point after the byte at a point.
 pub fn over(s: &[u8], p: Point) -> Point
     requires { Inside s.now p × (p.index < length s.now) }
     ensures { result ≡ over_at s.now p }
 {
-    let i = p.index as usize;
-    p.over(s[i])
+    p.over(s[p.index as usize])
 }
 
-// The end of a run of bytes of one kind.
-pub fn run_end(s: &[u8], kinds: &[u8], p: Point, k: u8) -> Point
-    requires { Inside s.now p × (k ≡ 2 → ⊥) × Passes kinds.now }
-    ensures { result ≡ past p (run_of (kind_in kinds.now) k (rest_of s.now p)) }
-{
-    let mut q = p;
-    while ahead(s, kinds, q) == k {
-        q = over(s, q);
+impl Text<'_> {
+    // Where the bytes of the line end that a place lies in: kind 2 is that of the bytes 10 and 13.
+    pub fn line_stop(&self, at: usize) -> usize
+        ensures { result ≡ at + length (line_body (drop at self.now.bytes.now)) }
+    {
+        for i in at..self.bytes.len() {
+            if self.kind_at(i) == Kind::End {
+                return i;
+            }
+        }
+        at.max(self.bytes.len())
     }
-    q
-}
 
-// The end of a run of spaces and tabs.
-pub fn space_end(s: &[u8], kinds: &[u8], p: Point) -> Point
-    requires { Inside s.now p × Passes kinds.now }
-    ensures { result ≡ past p (indent (kind_in kinds.now) (rest_of s.now p)) }
-{
-    run_end(s, kinds, p, 1)
+    // Where a run of bytes of one kind ends, from a place on.
+    pub fn run_stop(&self, at: usize, k: Kind) -> usize
+        requires { kind_number k ≡ 2 → ⊥ }
+        ensures { result ≡ at + length (run_of (kind_in self.now.kinds.now) (kind_number k) (line_body (drop at self.now.bytes.now))) }
+    {
+        for i in at..self.bytes.len() {
+            if self.kind_at(i) != k {
+                return i;
+            }
+        }
+        at.max(self.bytes.len())
+    }
+
+    // The end of a run of bytes of one kind.
+    pub fn run_end(&self, p: Point, k: Kind) -> Point
+        requires { Inside self.now.bytes.now p × (kind_number k ≡ 2 → ⊥) }
+        ensures { result ≡ past p (run_of (kind_in self.now.kinds.now) (kind_number k) (rest_of self.now.bytes.now p)) }
+    {
+        let mut q = p;
+        while self.ahead(q) == k {
+            q = over(self.bytes, q);
+        }
+        q
+    }
+
+    // The end of a run of spaces and tabs.
+    pub fn space_end(&self, p: Point) -> Point
+        requires { Inside self.now.bytes.now p }
+        ensures { result ≡ past p (indent (kind_in self.now.kinds.now) (rest_of self.now.bytes.now p)) }
+    {
+        self.run_end(p, Kind::Space)
+    }
+
+    // Whether the line has nothing but spaces and tabs from a point on.
+    pub fn is_blank(&self, p: Point) -> bool
+        requires { Inside self.now.bytes.now p }
+        ensures { result ≡ blank (kind_in self.now.kinds.now) (rest_of self.now.bytes.now p) }
+    {
+        self.ahead(self.space_end(p)) == Kind::End
+    }
 }

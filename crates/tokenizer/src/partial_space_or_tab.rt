@@ -1,25 +1,18 @@
 // Runs of spaces and tabs with a least and a greatest number of units, by value and over a feed that is lent.
 ghost use Rattle.std.specs.Prelude.{◌≡◌};
-ghost use Rattle.tokenizer.specs.Spaces.{is_space_byte, space_ahead, attempt_of, space_ends, Reading};
+ghost use Rattle.tokenizer.specs.Spaces.{is_space_byte, space_ahead, enough, attempt_of, after_attempt, space_ends, Reading};
 ghost use Rattle.tokenizer.specs.Feed.{Fed};
 
 use crate::event::Point;
 use crate::feed::{Byte, Feed};
-use crate::kinds::kind;
-
-// Whether an attempt was right, with the feed behind it, or with the copy that was kept.
-#[derive(Clone, Copy)]
-pub struct Attempt {
-    pub right: bool,
-    pub feed: Feed,
-}
+use crate::kinds::Kind;
 
 // Whether a byte is a space or a tab.
 pub fn is_space(b: Byte) -> bool
     ensures { result ≡ is_space_byte b }
 {
     match b {
-        Byte::At(x) => kind(x) == 1,
+        Byte::At(x) => Kind::of(x) == Kind::Space,
         Byte::End => false,
     }
 }
@@ -28,15 +21,11 @@ pub fn is_space(b: Byte) -> bool
 pub fn space_ahead(f: Feed, left: usize) -> bool
     ensures { result ≡ space_ahead f left }
 {
-    if left == 0 {
-        return false;
-    }
-    let b = f.current;
-    is_space(b)
+    left != 0 && is_space(f.current)
 }
 
-// At least `min` and at most `max` units of whitespace, by value.
-pub fn space_or_tab_attempt(s: &[u8], f: Feed, min: usize, max: usize) -> Attempt
+// An attempt by value: the feed behind at least `min` and at most `max` units of whitespace, where there are so many.
+pub fn space_or_tab_attempt(s: &[u8], f: Feed, min: usize, max: usize) -> Option<Feed>
     requires { Reading s.now f }
     ensures { result ≡ attempt_of s.now min max f.point }
 {
@@ -47,25 +36,23 @@ pub fn space_or_tab_attempt(s: &[u8], f: Feed, min: usize, max: usize) -> Attemp
         left -= 1;
     }
     if max - left < min {
-        return Attempt {
-            right: false,
-            feed: f,
-        };
+        return None;
     }
-    Attempt {
-        right: true,
-        feed: q,
-    }
+    Some(q)
 }
 
 // The same with a feed that is lent: whether there are so many. If so it stands behind them, and else where it stood.
 pub fn space_or_tab_min_max(s: &[u8], f: &mut Feed, min: usize, max: usize) -> bool
     requires { Reading s.now f.old }
-    ensures { (result ≡ (attempt_of s.now min max f.old.point).right) × (f.new ≡ (attempt_of s.now min max f.old.point).feed) }
+    ensures { (result ≡ enough s.now min max f.old.point) × (f.new ≡ after_attempt s.now min max f.old) }
 {
-    let tried = space_or_tab_attempt(s, *f, min, max);
-    *f = tried.feed;
-    tried.right
+    match space_or_tab_attempt(s, *f, min, max) {
+        Some(behind) => {
+            *f = behind;
+            true
+        }
+        None => false,
+    }
 }
 
 // Whether no whitespace is read behind at most `max` units of it.

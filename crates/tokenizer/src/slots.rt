@@ -8,11 +8,7 @@ use crate::event::Event;
 pub fn at_or_blank(list: &[Event], i: usize) -> Event
     ensures { result ≡ event_at list.now i }
 {
-    if i < list.len() {
-        list[i]
-    } else {
-        Event::BLANK
-    }
+    list.get(i).copied().unwrap_or(Event::BLANK)
 }
 
 // A slot is written, where there is one.
@@ -52,9 +48,7 @@ pub fn past_if(go: bool, i: usize) -> usize
 pub fn clear_from(slots: &mut [Event], n: usize)
     ensures { slots.new ≡ cleared_from n slots.old }
 {
-    let mut i = n;
-    while i < slots.len() {
+    for i in n..slots.len() {
         slots[i] = Event::BLANK;
-        i += 1;
     }
 }

@@ -7,8 +7,8 @@ use mathlib.Core.List.{List}
 use native.Mathlib.Omega.{arith}
 use borrow.Author.Tests.{le-leb, lt-leb}
 use Rattle.tokenizer.specs.declared.event.Point.{Point}
+use Rattle.std.specs.Prelude.{Some}
 use Rattle.tokenizer.specs.declared.feed.Feed.{Feed}
-use Rattle.tokenizer.specs.declared.partial_space_or_tab.Attempt.{Attempt}
 use Rattle.tokenizer.specs.Feed.{feed_at}
 use Rattle.tokenizer.specs.Spaces.{space_units, space_ahead}
 use Rattle.tokenizer.proofs.Spaces.{fed-next, ahead_some, past_more, units_more, past_done, units_done}
@@ -25,9 +25,6 @@ more c = ahead _ _ _ _ _ c.loop-q.invariant.0.read c.space_ahead.ensures c.loop-
 -- after the loop: as many units as the whole run has
 counted : (s : List ℕ) (p : Point) (max n u : ℕ) → space_ahead (feed_at s p) n ≡ false → max - n + space_units s n p ≡ u → max - n ≡ u
 counted s p max n u h e = omega (arith, e, units_done s p n h)
-
-abbrev tried : Bool → Feed → Attempt
-tried b f = record { right = b; feed = f }
 
 pub overflow_sub-left : goal.overflow_sub-left
 overflow_sub-left c = ahead_some _ c.loop-q.q.point c.loop-q.left (more c)
@@ -54,7 +51,6 @@ returns-then-max-left c =
     let l = c.loop-q in
     let h = ahead _ _ _ _ _ l.invariant.0.read c.space_ahead.ensures c.loop-q-test.false in
     rw (lt-leb a.min (space_units a.s.now a.max a.f.point) (rw (counted a.s.now l.q.point a.max l.left _ h l.invariant.3) at c.if-max-left.true))
-    (ap (tried false) c.requires.read)
 
 pub returns : goal.returns
 returns c =
@@ -63,4 +59,4 @@ returns c =
     let s = a.s.now in
     let h = ahead _ _ _ _ _ l.invariant.0.read c.space_ahead.ensures c.loop-q-test.false in
     rw (le-leb a.min (space_units s a.max a.f.point) (rw (counted s l.q.point a.max l.left _ h l.invariant.3) at c.if-max-left.false))
-    (ap (tried true) (l.invariant.0.read ∙ ap (feed_at s) (sym (past_done s l.q.point l.left h) ∙ l.invariant.2)))
+    (ap Some (l.invariant.0.read ∙ ap (feed_at s) (sym (past_done s l.q.point l.left h) ∙ l.invariant.2)))

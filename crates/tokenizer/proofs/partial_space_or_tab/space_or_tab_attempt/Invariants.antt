@@ -5,8 +5,8 @@ use Rattle.tokenizer.proofs.partial_space_or_tab.space_or_tab_attempt.Given as g
 
 abbrev pub invariant-loop-q : goal.invariant-loop-q
 invariant-loop-q l =
-    Reading l.s l.q × (l.left ≤ l.max) × (spaces_past l.s l.left l.q.point ≡ spaces_past l.s l.max l.f.point)
-    × (l.max - l.left + space_units l.s l.left l.q.point ≡ space_units l.s l.max l.f.point)
+    Reading l.s l.q × (l.left ≤ l.max) × (spaces_past l.s l.left l.q.point ≡ spaces_past l.s l.max l.fn.f.point)
+    × (l.max - l.left + space_units l.s l.left l.q.point ≡ space_units l.s l.max l.fn.f.point)
 
 abbrev pub decreases-loop-q : goal.decreases-loop-q
 decreases-loop-q l = l.left
