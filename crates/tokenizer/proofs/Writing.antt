@@ -8,7 +8,7 @@ use lib.ListN.{length, set, length-set}
 use lib.Seq.{set_out}
 use native.Mathlib.Omega.{arith}
 use Rattle.tokenizer.specs.declared.event.Event.{Event}
-use Rattle.tokenizer.specs.Slots.{slots_of, cleared_from, wrote, nowhere, slot_if, past_if, event_if}
+use Rattle.tokenizer.specs.Slots.{slots_of, cleared, cleared_from, wrote, nowhere, slot_if, past_if, event_if}
 use Rattle.tokenizer.proofs.Blanks.{slots_none, cleared_all}
 
 -- nothing, and one event
@@ -45,7 +45,7 @@ behind-first i (e ∷ es) z zs = behind-first (suc i) es z (set zs i e)
 
 -- events that fit, and blank ones behind them
 pub wrote_cleared : (es zs : List Event) → length es ≤ length zs → cleared_from (length es) (wrote 0 es zs) ≡ slots_of (length zs) es
-unfolding wrote cleared_from slots_of
+unfolding wrote cleared slots_of
 wrote_cleared [] zs h = cleared_all zs ∙ sym (slots_none (length zs))
 wrote_cleared (e ∷ es) [] h = absurd (omega arith)
 wrote_cleared (e ∷ es) (z ∷ zs) h = ap (cleared_from (suc (length es))) (behind-first 0 es e zs) ∙ ap (λ (l : List Event). e ∷ l) (wrote_cleared es zs (omega arith))

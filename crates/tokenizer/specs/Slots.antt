@@ -13,10 +13,14 @@ slots_of zero xs = []
 slots_of (suc n) xs = event_at xs 0 ∷ slots_of n (drop 1 xs)
 
 -- slots of which each from the n-th on is blank
-unfoldable pub cleared_from : ℕ → List Event → List Event
-cleared_from n [] = []
-cleared_from zero (x ∷ xs) = blank_event ∷ cleared_from zero xs
-cleared_from (suc n) (x ∷ xs) = x ∷ cleared_from n xs
+unfoldable pub cleared : {A : Type 0} → A → ℕ → List A → List A
+cleared blank n [] = []
+cleared blank zero (x ∷ xs) = blank ∷ cleared blank zero xs
+cleared blank (suc n) (x ∷ xs) = x ∷ cleared blank n xs
+
+-- slots of events so
+abbrev pub cleared_from : ℕ → List Event → List Event
+cleared_from n xs = cleared blank_event n xs
 
 -- slots of which those from the i-th on are written with some events, as far as there are slots; the others stay
 unfoldable pub wrote : ℕ → List Event → List Event → List Event

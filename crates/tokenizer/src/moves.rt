@@ -43,6 +43,13 @@ impl Text<'_> {
         at.max(self.bytes.len())
     }
 
+    // Where a run of spaces and tabs ends, from a place on.
+    pub fn space_stop(&self, at: usize) -> usize
+        ensures { result ≡ at + length (indent (kind_in self.now.kinds.now) (line_body (drop at self.now.bytes.now))) }
+    {
+        self.run_stop(at, Kind::Space)
+    }
+
     // The end of a run of bytes of one kind.
     pub fn run_end(&self, p: Point, k: Kind) -> Point
         requires { Inside self.now.bytes.now p × (kind_number k ≡ 2 → ⊥) }

@@ -1,6 +1,6 @@
 // Slots for events that are lent: one is read, one is written, and all from a place on are cleared.
 ghost use Rattle.std.specs.Prelude.{◌≡◌, ◌<◌, set};
-ghost use Rattle.tokenizer.specs.Slots.{event_at, cleared_from, nowhere, slot_if, past_if};
+ghost use Rattle.tokenizer.specs.Slots.{event_at, cleared, nowhere, slot_if, past_if};
 
 use crate::event::Event;
 
@@ -45,10 +45,10 @@ pub fn past_if(go: bool, i: usize) -> usize
 }
 
 // The slots from a place on are made blank, and those before it stay.
-pub fn clear_from(slots: &mut [Event], n: usize)
-    ensures { slots.new ≡ cleared_from n slots.old }
+pub fn clear_from<T: Copy>(slots: &mut [T], n: usize, blank: T)
+    ensures { slots.new ≡ cleared blank n slots.old }
 {
     for i in n..slots.len() {
-        slots[i] = Event::BLANK;
+        slots[i] = blank;
     }
 }
