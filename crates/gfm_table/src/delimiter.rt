@@ -1,211 +1,171 @@
 // The states of a delimiter row.
 ghost use Rattle.std.specs.Prelude.{◌≡◌, ◌≤◌, length, drop};
-ghost use Rattle.tokenizer.specs.Bytes.{kind_in, Passes};
-ghost use Rattle.tokenizer.specs.Points.{past};
+ghost use Rattle.tokenizer.specs.Bytes.{kind_in};
 ghost use Rattle.tokenizer.specs.Lines.{is_empty, line_body};
 ghost use Rattle.tokenizer.specs.Moves.{rest_of, Inside};
 ghost use Rattle.gfm_table.specs.Heads.{permitted};
-ghost use Rattle.gfm_table.specs.Delimiters.{stretch, blank_at, closed_at, hyphens_at, cell_at, rest_at, values_at, delimiter_at, filler_run};
+ghost use Rattle.gfm_table.specs.Delimiters.{stretch, blank_at, closed_at, hyphens_at, cell_at, rest_at, values_at, delimiter_at};
 
 use crate::values::marked_from;
 use tokenizer::event::Point;
-use tokenizer::moves::{ahead, kind_at, over, run_end, space_end};
+use tokenizer::kinds::Kind;
+use tokenizer::moves::over;
 use tokenizer::partial_space_or_tab::space_ends;
+use tokenizer::text::Text;
 
-// What stands between two dividers: nothing but whitespace, a value, or something else. The point is the end of the stretch.
+// What stands between two dividers: nothing but whitespace, or a value. The point is the end of the stretch.
 #[derive(Clone, Copy)]
 pub enum Cell {
     Empty(Point),
     Value(Point),
-    Bad,
 }
 
-// The values of a delimiter row, with the end of the line.
+// The values of a delimiter row: how many, and the end of the line.
 #[derive(Clone, Copy)]
-pub enum Values {
-    Count(u32, Point),
-    Bad,
+pub struct Values {
+    pub count: u32,
+    pub end: Point,
 }
 
 // Whether a stretch ends here: at a divider, a line end or the sheet's end.
-pub fn stretch_ends(s: &[u8], kinds: &[u8], p: Point) -> bool
-    requires { Passes kinds.now }
-    ensures { result ≡ is_empty (stretch (kind_in kinds.now) (rest_of s.now p)) }
+pub fn stretch_ends(text: &Text, p: Point) -> bool
+    ensures { result ≡ is_empty (stretch (kind_in text.now.kinds.now) (rest_of text.now.bytes.now p)) }
 {
-    match ahead(s, kinds, p) {
-        2 => true,
-        3 => true,
-        _ => false,
-    }
+    matches!(text.ahead(p), Kind::End | Kind::Pipe)
 }
 
 // After a value: whitespace, and the end of the stretch.
-pub fn head_delimiter_cell_after(s: &[u8], kinds: &[u8], p: Point) -> Cell
-    requires { Inside s.now p × Passes kinds.now }
-    ensures { result ≡ blank_at (kind_in kinds.now) p (rest_of s.now p) }
+pub fn head_delimiter_cell_after(text: &Text, p: Point) -> Option<Cell>
+    requires { Inside text.now.bytes.now p }
+    ensures { result ≡ blank_at (kind_in text.now.kinds.now) p (rest_of text.now.bytes.now p) }
 {
-    let e = space_end(s, kinds, p);
-    if stretch_ends(s, kinds, e) {
-        Cell::Value(e)
-    } else {
-        Cell::Bad
+    let e = text.space_end(p);
+    if stretch_ends(text, e) {
+        return Some(Cell::Value(e));
     }
+    None
 }
 
 // After a value's hyphens: an optional colon.
-pub fn head_delimiter_filler(s: &[u8], kinds: &[u8], p: Point) -> Cell
-    requires { Inside s.now p × Passes kinds.now }
-    ensures { result ≡ closed_at (kind_in kinds.now) p (rest_of s.now p) }
+pub fn head_delimiter_filler(text: &Text, p: Point) -> Option<Cell>
+    requires { Inside text.now.bytes.now p }
+    ensures { result ≡ closed_at (kind_in text.now.kinds.now) p (rest_of text.now.bytes.now p) }
 {
-    match ahead(s, kinds, p) {
-        6 => head_delimiter_cell_after(s, kinds, over(s, p)),
-        _ => head_delimiter_cell_after(s, kinds, p),
+    match text.ahead(p) {
+        Kind::Colon => head_delimiter_cell_after(text, over(text.bytes, p)),
+        _ => head_delimiter_cell_after(text, p),
     }
 }
 
 // At a value's hyphens, after an optional colon.
-pub fn head_delimiter_left_alignment_after(s: &[u8], kinds: &[u8], p: Point) -> Cell
-    requires { Inside s.now p × Passes kinds.now }
-    ensures { result ≡ hyphens_at (kind_in kinds.now) p (rest_of s.now p) }
+pub fn head_delimiter_left_alignment_after(text: &Text, p: Point) -> Option<Cell>
+    requires { Inside text.now.bytes.now p }
+    ensures { result ≡ hyphens_at (kind_in text.now.kinds.now) p (rest_of text.now.bytes.now p) }
 {
-    match ahead(s, kinds, p) {
-        5 => head_delimiter_filler(s, kinds, run_end(s, kinds, p, 5)),
-        _ => Cell::Bad,
+    match text.ahead(p) {
+        Kind::Hyphen => head_delimiter_filler(text, text.run_end(p, Kind::Hyphen)),
+        _ => None,
     }
 }
 
-// One stretch of a delimiter row.
-pub fn head_delimiter_value_before(s: &[u8], kinds: &[u8], p: Point) -> Cell
-    requires { Inside s.now p × Passes kinds.now }
-    ensures { result ≡ cell_at (kind_in kinds.now) p (rest_of s.now p) }
+// One stretch of a delimiter row, if it is empty or a value.
+pub fn head_delimiter_value_before(text: &Text, p: Point) -> Option<Cell>
+    requires { Inside text.now.bytes.now p }
+    ensures { result ≡ cell_at (kind_in text.now.kinds.now) p (rest_of text.now.bytes.now p) }
 {
-    let q = space_end(s, kinds, p);
-    if stretch_ends(s, kinds, q) {
-        return Cell::Empty(q);
+    let q = text.space_end(p);
+    if stretch_ends(text, q) {
+        return Some(Cell::Empty(q));
     }
-    match ahead(s, kinds, q) {
-        6 => head_delimiter_left_alignment_after(s, kinds, over(s, q)),
-        _ => head_delimiter_left_alignment_after(s, kinds, q),
+    match text.ahead(q) {
+        Kind::Colon => head_delimiter_left_alignment_after(text, over(text.bytes, q)),
+        _ => head_delimiter_left_alignment_after(text, q),
     }
 }
 
-// The stretches that are left, after n values.
-pub fn head_delimiter_cells(s: &[u8], kinds: &[u8], p: Point, n: u32) -> Values
-    requires { Inside s.now p × (n ≤ p.index) × Passes kinds.now }
-    ensures { result ≡ rest_at (kind_in kinds.now) n p (rest_of s.now p) }
+// The stretches that are left, after n values, if each is a value but for an empty last one.
+pub fn head_delimiter_cells(text: &Text, p: Point, n: u32) -> Option<Values>
+    requires { Inside text.now.bytes.now p × (n ≤ p.index) }
+    ensures { result ≡ rest_at (kind_in text.now.kinds.now) n p (rest_of text.now.bytes.now p) }
 {
     let mut q = p;
     let mut m = n;
     loop {
-        match head_delimiter_value_before(s, kinds, q) {
-            Cell::Bad => {
-                return Values::Bad;
-            }
+        match head_delimiter_value_before(text, q)? {
             Cell::Empty(e) => {
-                if ahead(s, kinds, e) == 3 {
-                    return Values::Bad;
+                if text.ahead(e) == Kind::Pipe {
+                    return None;
                 }
-                return Values::Count(m, e);
+                return Some(Values { count: m, end: e });
             }
             Cell::Value(e) => {
                 m += 1;
-                if ahead(s, kinds, e) == 3 {
-                    q = over(s, e);
-                } else {
-                    return Values::Count(m, e);
+                if text.ahead(e) != Kind::Pipe {
+                    return Some(Values { count: m, end: e });
                 }
+                q = over(text.bytes, e);
             }
         }
     }
 }
 
 // All stretches. A leading divider has nothing before it.
-pub fn head_delimiter_before(s: &[u8], kinds: &[u8], p: Point) -> Values
-    requires { Inside s.now p × Passes kinds.now }
-    ensures { result ≡ values_at (kind_in kinds.now) p (rest_of s.now p) }
+pub fn head_delimiter_before(text: &Text, p: Point) -> Option<Values>
+    requires { Inside text.now.bytes.now p }
+    ensures { result ≡ values_at (kind_in text.now.kinds.now) p (rest_of text.now.bytes.now p) }
 {
-    let q = space_end(s, kinds, p);
-    if ahead(s, kinds, q) == 3 {
-        return head_delimiter_cells(s, kinds, over(s, q), 0);
+    let q = text.space_end(p);
+    if text.ahead(q) == Kind::Pipe {
+        return head_delimiter_cells(text, over(text.bytes, q), 0);
     }
-    head_delimiter_cells(s, kinds, p, 0)
+    head_delimiter_cells(text, p, 0)
 }
 
 // Whether the indent of the line at a place is permitted. Most lines have none.
-pub fn permits_at(s: &[u8], kinds: &[u8], at: usize, on: bool) -> bool
-    requires { (length s.now ≤ 65536) × (at ≤ length s.now) × Passes kinds.now }
-    ensures { result ≡ permitted (kind_in kinds.now) on (line_body (drop at s.now)) }
+pub fn permits_at(text: &Text, at: usize, on: bool) -> bool
+    requires { (length text.now.bytes.now ≤ 65536) × (at ≤ length text.now.bytes.now) }
+    ensures { result ≡ permitted (kind_in text.now.kinds.now) on (line_body (drop at text.now.bytes.now)) }
 {
-    if on {
-        if kind_at(s, kinds, at) == 1 {
-            let p = Point {
-                line: 1,
-                column: 1,
-                index: at as u32,
-                vs: 0,
-            };
-            return space_ends(s, p, Point::INDENT_CAP);
-        }
+    if on && text.kind_at(at) == Kind::Space {
+        let p = Point {
+            index: at as u32,
+            ..Point::START
+        };
+        return space_ends(text.bytes, p, Point::INDENT_CAP);
     }
     true
 }
 
 // The same at a point.
-pub fn permits(s: &[u8], kinds: &[u8], p: Point, on: bool) -> bool
-    requires { Inside s.now p × (p.column ≡ 1) × Passes kinds.now }
-    ensures { result ≡ permitted (kind_in kinds.now) on (rest_of s.now p) }
+pub fn permits(text: &Text, p: Point, on: bool) -> bool
+    requires { Inside text.now.bytes.now p × (p.column ≡ 1) }
+    ensures { result ≡ permitted (kind_in text.now.kinds.now) on (rest_of text.now.bytes.now p) }
 {
-    permits_at(s, kinds, p.index as usize, on)
+    permits_at(text, p.index as usize, on)
 }
 
-// The delimiter row: the number of its values and its end, or refused.
-pub fn head_delimiter_row(s: &[u8], kinds: &[u8], p: Point, on: bool) -> Values
-    requires { Inside s.now p × (p.column ≡ 1) × Passes kinds.now }
-    ensures { result ≡ delimiter_at (kind_in kinds.now) on p (rest_of s.now p) }
+// The delimiter row, if the line is one: the number of its values and its end.
+pub fn head_delimiter_row(text: &Text, p: Point, on: bool) -> Option<Values>
+    requires { Inside text.now.bytes.now p × (p.column ≡ 1) }
+    ensures { result ≡ delimiter_at (kind_in text.now.kinds.now) on p (rest_of text.now.bytes.now p) }
 {
-    if permits(s, kinds, p, on) {
-        if marked_from(s, kinds, p.index as usize) {
-            match head_delimiter_before(s, kinds, p) {
-                Values::Count(n, e) => {
-                    if 0 < n {
-                        return Values::Count(n, e);
-                    }
-                    return Values::Bad;
-                }
-                Values::Bad => {
-                    return Values::Bad;
-                }
-            }
-        }
+    if !permits(text, p, on) || !marked_from(text, p.index as usize) {
+        return None;
     }
-    Values::Bad
+    let values = head_delimiter_before(text, p)?;
+    if values.count == 0 {
+        return None;
+    }
+    Some(values)
 }
 
 // The same. A line whose first byte is no whitespace, divider, hyphen or colon is refused at once: most are such.
-pub fn head_delimiter_start(s: &[u8], kinds: &[u8], p: Point, on: bool) -> Values
-    requires { Inside s.now p × (p.column ≡ 1) × Passes kinds.now }
-    ensures { result ≡ delimiter_at (kind_in kinds.now) on p (rest_of s.now p) }
+pub fn head_delimiter_start(text: &Text, p: Point, on: bool) -> Option<Values>
+    requires { Inside text.now.bytes.now p × (p.column ≡ 1) }
+    ensures { result ≡ delimiter_at (kind_in text.now.kinds.now) on p (rest_of text.now.bytes.now p) }
 {
-    match ahead(s, kinds, p) {
-        1 | 3 | 5 | 6 => head_delimiter_row(s, kinds, p, on),
-        _ => Values::Bad,
-    }
-}
-
-// The end of a run of bytes that a delimiter row names fillers.
-pub fn filler_end(s: &[u8], kinds: &[u8], p: Point) -> Point
-    requires { Inside s.now p × Passes kinds.now }
-    ensures { result ≡ past p (filler_run (kind_in kinds.now) (rest_of s.now p)) }
-{
-    let mut q = p;
-    loop {
-        match ahead(s, kinds, q) {
-            1 | 2 | 3 | 6 => {
-                return q;
-            }
-            _ => {
-                q = over(s, q);
-            }
-        }
+    match text.ahead(p) {
+        Kind::Space | Kind::Pipe | Kind::Hyphen | Kind::Colon => head_delimiter_row(text, p, on),
+        _ => None,
     }
 }

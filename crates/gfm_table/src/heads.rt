@@ -1,13 +1,15 @@
 // Heads by their point: what the walk over a sheet goes by.
 ghost use Rattle.std.specs.Prelude.{◌≡◌};
-ghost use Rattle.tokenizer.specs.Bytes.{kind_in, Passes};
+ghost use Rattle.tokenizer.specs.Bytes.{kind_in};
 ghost use Rattle.tokenizer.specs.Moves.{Inside};
 ghost use Rattle.gfm_table.specs.Answers.{head_at};
 
-use crate::delimiter::{Values, head_delimiter_start, permits};
+use crate::delimiter::{head_delimiter_start, permits};
 use crate::states::row;
 use tokenizer::event::Point;
 use tokenizer::lines::end_at;
+use tokenizer::refusal::Refusal;
+use tokenizer::text::Text;
 
 // A head: its cells, the pieces of its line, where its delimiter row starts, and where that ends.
 #[derive(Clone, Copy)]
@@ -18,48 +20,33 @@ pub struct Opened {
     pub end: Point,
 }
 
-// The number of the first question answered no, or a head.
-#[derive(Clone, Copy)]
-pub enum Answer {
-    Refused(u8),
-    Accepted(Opened),
-}
-
 // Questions 3 to 7 of a head line and the line after it.
-pub fn head_at(s: &[u8], kinds: &[u8], p: Point, on: bool, stray: bool) -> Answer
-    requires { Inside s.now p × (p.column ≡ 1) × Passes kinds.now }
-    ensures { result ≡ head_at (kind_in kinds.now) s.now p on stray }
+pub fn head_at(text: &Text, p: Point, on: bool, stray: bool) -> Result<Opened, Refusal>
+    requires { Inside text.now.bytes.now p × (p.column ≡ 1) }
+    ensures { result ≡ head_at (kind_in text.now.kinds.now) text.now.bytes.now p on stray }
 {
-    if permits(s, kinds, p, on) {
-        let r = row(s, kinds, p);
-        let at = r.at;
-        let n = end_at(s, at);
-        if n == 0 {
-            return Answer::Refused(4);
-        }
-        if r.size_b <= 1 {
-            return Answer::Refused(4);
-        }
-        if stray {
-            return Answer::Refused(5);
-        }
-        let d = at.next_line(n);
-        match head_delimiter_start(s, kinds, d, on) {
-            Values::Bad => {
-                return Answer::Refused(6);
-            }
-            Values::Count(v, e) => {
-                if v == r.size {
-                    return Answer::Accepted(Opened {
-                        cells: v,
-                        pieces: r.count,
-                        delimiter: d,
-                        end: e,
-                    });
-                }
-                return Answer::Refused(7);
-            }
-        }
+    if !permits(text, p, on) {
+        return Err(Refusal::IndentTooWide);
     }
-    Answer::Refused(3)
+    let r = row(text, p);
+    let n = end_at(text.bytes, r.at);
+    if n == 0 || r.size_b <= 1 {
+        return Err(Refusal::NoHeadLine);
+    }
+    if stray {
+        return Err(Refusal::LazyOrPierced);
+    }
+    let delimiter = r.at.next_line(n);
+    let Some(values) = head_delimiter_start(text, delimiter, on) else {
+        return Err(Refusal::NoDelimiterRow);
+    };
+    if values.count != r.size {
+        return Err(Refusal::ColumnsDiffer);
+    }
+    Ok(Opened {
+        cells: values.count,
+        pieces: r.count,
+        delimiter,
+        end: values.end,
+    })
 }

@@ -1,39 +1,27 @@
 // The pieces of a line, counted by the places of its bytes.
-ghost use Rattle.std.specs.Prelude.{◌≡◌, false, cond, ◌≤◌, ◌+◌, length, drop};
-ghost use Rattle.tokenizer.specs.Bytes.{kind_in, Passes};
-ghost use Rattle.tokenizer.specs.Lines.{line_body, indent};
+ghost use Rattle.std.specs.Prelude.{◌≡◌, false, ◌≤◌, ◌+◌, length, drop};
+ghost use Rattle.tokenizer.specs.Bytes.{kind_in};
+ghost use Rattle.tokenizer.specs.Lines.{line_body};
 ghost use Rattle.gfm_table.specs.Rows.{delimiter_pieces};
 ghost use Rattle.gfm_table.specs.Machine.{data_run, HeadRead};
 ghost use Rattle.gfm_table.specs.Delimiters.{filler_run};
 
 use crate::states::row_escape;
-use tokenizer::moves::kind_at;
+use tokenizer::kinds::Kind;
+use tokenizer::text::Text;
 
-// The end of a run of spaces and tabs.
-pub fn spaces_end(s: &[u8], kinds: &[u8], at: usize) -> usize
-    requires { Passes kinds.now }
-    ensures { result ≡ at + length (indent (kind_in kinds.now) (line_body (drop at s.now))) }
-{
-    let mut i = at;
-    while kind_at(s, kinds, i) == 1 {
-        i += 1;
-    }
-    i
-}
-
-// The end of a run of data.
-pub fn text_end(s: &[u8], kinds: &[u8], at: usize) -> usize
-    requires { Passes kinds.now }
-    ensures { result ≡ at + length (data_run (kind_in kinds.now) false (line_body (drop at s.now))) }
+// The end of a run of data. The byte behind a backslash may be passed with it, so the place is counted by hand.
+pub fn text_end(text: &Text, at: usize) -> usize
+    ensures { result ≡ at + length (data_run (kind_in text.now.kinds.now) false (line_body (drop at text.now.bytes.now))) }
 {
     let mut i = at;
     loop {
-        match kind_at(s, kinds, i) {
-            1 | 2 | 3 => {
+        match text.kind_at(i) {
+            Kind::Space | Kind::End | Kind::Pipe => {
                 return i;
             }
-            4 => {
-                i = row_escape(s, kinds, i + 1);
+            Kind::Backslash => {
+                i = row_escape(text, i + 1);
             }
             _ => {
                 i += 1;
@@ -49,39 +37,32 @@ pub struct HeadRow {
     pub size_b: u32,
 }
 
-// 1 where something holds, 0 elsewhere.
-fn one_if(b: bool) -> u32
-    ensures { result ≡ cond b 1 0 }
-{
-    if b { 1 } else { 0 }
-}
-
-// The head line from a place to its end. A cell begins with a solid piece that follows a divider.
-pub fn head_row(s: &[u8], kinds: &[u8], at: usize) -> HeadRow
-    requires { (length s.now ≤ 65536) × (at ≤ length s.now) × Passes kinds.now }
-    ensures { HeadRead (kind_in kinds.now) (line_body (drop at s.now)) result }
+// The head line from a place to its end. A cell begins with a solid piece that follows a divider. The place goes on by whole pieces.
+pub fn head_row(text: &Text, at: usize) -> HeadRow
+    requires { (length text.now.bytes.now ≤ 65536) × (at ≤ length text.now.bytes.now) }
+    ensures { HeadRead (kind_in text.now.kinds.now) (line_body (drop at text.now.bytes.now)) result }
 {
     let mut i = at;
     let mut size: u32 = 0;
-    let mut seen = kind_at(s, kinds, spaces_end(s, kinds, at)) != 3;
-    let mut size_b: u32 = one_if(seen);
+    let mut seen = text.kind_at(text.space_stop(at)) != Kind::Pipe;
+    let mut size_b = u32::from(seen);
     loop {
-        match kind_at(s, kinds, i) {
-            1 => {
-                i = spaces_end(s, kinds, i + 1);
+        match text.kind_at(i) {
+            Kind::Space => {
+                i = text.space_stop(i + 1);
             }
-            2 => {
+            Kind::End => {
                 return HeadRow { size, size_b };
             }
-            3 => {
+            Kind::Pipe => {
                 i += 1;
-                size += one_if(seen);
+                size += u32::from(seen);
                 size_b += 1;
                 seen = true;
             }
             _ => {
-                i = text_end(s, kinds, i);
-                size += one_if(seen);
+                i = text_end(text, i);
+                size += u32::from(seen);
                 size_b += 1;
                 seen = false;
             }
@@ -90,45 +71,42 @@ pub fn head_row(s: &[u8], kinds: &[u8], at: usize) -> HeadRow
 }
 
 // The end of a run of bytes that a delimiter row names fillers.
-pub fn fillers_end(s: &[u8], kinds: &[u8], at: usize) -> usize
-    requires { Passes kinds.now }
-    ensures { result ≡ at + length (filler_run (kind_in kinds.now) (line_body (drop at s.now))) }
+pub fn fillers_end(text: &Text, at: usize) -> usize
+    ensures { result ≡ at + length (filler_run (kind_in text.now.kinds.now) (line_body (drop at text.now.bytes.now))) }
 {
-    let mut i = at;
-    loop {
-        match kind_at(s, kinds, i) {
-            1 | 2 | 3 | 6 => {
+    for i in at..text.bytes.len() {
+        match text.kind_at(i) {
+            Kind::Space | Kind::End | Kind::Pipe | Kind::Colon => {
                 return i;
             }
-            _ => {
-                i += 1;
-            }
+            _ => {}
         }
     }
+    at.max(text.bytes.len())
 }
 
-// How many pieces a delimiter row has, from a place to the end of its line.
-pub fn marks_from(s: &[u8], kinds: &[u8], at: usize) -> u32
-    requires { (length s.now ≤ 65536) × (at ≤ length s.now) × Passes kinds.now }
-    ensures { result ≡ length (delimiter_pieces (kind_in kinds.now) (line_body (drop at s.now))) }
+// How many pieces a delimiter row has, from a place to the end of its line. The place goes on by whole pieces.
+pub fn marks_from(text: &Text, at: usize) -> u32
+    requires { (length text.now.bytes.now ≤ 65536) × (at ≤ length text.now.bytes.now) }
+    ensures { result ≡ length (delimiter_pieces (kind_in text.now.kinds.now) (line_body (drop at text.now.bytes.now))) }
 {
     let mut i = at;
     let mut n: u32 = 0;
     loop {
-        match kind_at(s, kinds, i) {
-            1 => {
-                i = spaces_end(s, kinds, i + 1);
+        match text.kind_at(i) {
+            Kind::Space => {
+                i = text.space_stop(i + 1);
                 n += 1;
             }
-            2 => {
+            Kind::End => {
                 return n;
             }
-            3 | 6 => {
+            Kind::Pipe | Kind::Colon => {
                 i += 1;
                 n += 1;
             }
             _ => {
-                i = fillers_end(s, kinds, i);
+                i = fillers_end(text, i);
                 n += 1;
             }
         }

@@ -1,6 +1,6 @@
 // The states of a row: between two pieces, in data, after a backslash. Head and body share them.
-ghost use Rattle.std.specs.Prelude.{◌≡◌, false, ◌<◌, ◌+◌, length, drop};
-ghost use Rattle.tokenizer.specs.Bytes.{kind_in, Passes};
+ghost use Rattle.std.specs.Prelude.{◌≡◌, false, ◌<◌, ◌≤◌, ◌+◌, length, drop};
+ghost use Rattle.tokenizer.specs.Bytes.{kind_in};
 ghost use Rattle.tokenizer.specs.Points.{past};
 ghost use Rattle.tokenizer.specs.Lines.{line_body};
 ghost use Rattle.tokenizer.specs.Moves.{rest_of, Inside};
@@ -8,21 +8,23 @@ ghost use Rattle.gfm_table.specs.Machine.{Counted, AtData, data_run, escaped, co
 
 use crate::pieces::text_end;
 use tokenizer::event::{Name, Point};
-use tokenizer::moves::{ahead, kind_at, over, space_end};
+use tokenizer::kinds::Kind;
+use tokenizer::moves::over;
+use tokenizer::text::Text;
 
-// Where a row is read: the point reached, the last piece, how many pieces, and the head's counters.
+// Where a row is read: the point reached, where the last piece began and its name, how many pieces, and the head's counters.
 #[derive(Clone, Copy)]
 pub struct Scan {
     pub at: Point,
     pub from: Point,
-    pub name: u8,
+    pub name: Option<Name>,
     pub count: u32,
     pub size: u32,
     pub size_b: u32,
     pub seen: bool,
 }
 
-// A row is read to its end, or paused between two pieces.
+// A row is read to its end, or paused between two pieces. Not a `Result`: neither is a failure, and both go on from the same state.
 #[derive(Clone, Copy)]
 pub enum Step {
     Paused(Scan),
@@ -30,30 +32,26 @@ pub enum Step {
 }
 
 // After a backslash: a backslash or a pipe is passed over.
-pub fn row_escape(s: &[u8], kinds: &[u8], at: usize) -> usize
-    requires { Passes kinds.now }
-    ensures { result ≡ at + length (escaped (kind_in kinds.now) (line_body (drop at s.now))) }
+pub fn row_escape(text: &Text, at: usize) -> usize
+    ensures { result ≡ at + length (escaped (kind_in text.now.kinds.now) (line_body (drop at text.now.bytes.now))) }
 {
-    match kind_at(s, kinds, at) {
-        3 | 4 => at + 1,
+    match text.kind_at(at) {
+        Kind::Pipe | Kind::Backslash => at + 1,
         _ => at,
     }
 }
 
 // The end of a run of data. No tab lies in it, so a byte is a column.
-pub fn data_end(s: &[u8], kinds: &[u8], p: Point) -> Point
-    requires { Inside s.now p × Passes kinds.now }
-    ensures { result ≡ past p (data_run (kind_in kinds.now) false (rest_of s.now p)) }
+pub fn data_end(text: &Text, p: Point) -> Point
+    requires { Inside text.now.bytes.now p }
+    ensures { result ≡ past p (data_run (kind_in text.now.kinds.now) false (rest_of text.now.bytes.now p)) }
 {
-    let i = p.index as usize;
-    let e = text_end(s, kinds, i) as u32;
-    let n = e - p.index;
-    let column = p.column + n;
+    let index = text_end(text, p.index as usize) as u32;
     Point {
-        line: p.line,
-        column,
-        index: e,
+        column: p.column + (index - p.index),
+        index,
         vs: 0,
+        ..p
     }
 }
 
@@ -63,86 +61,75 @@ impl Scan {
         requires { (self.size < 1000000) × (self.size_b < 1000000) }
         ensures { result ≡ counted_as divider self }
     {
-        let at = self.at;
-        let from = self.from;
-        let size = if self.seen { self.size + 1 } else { self.size };
         Scan {
-            at,
-            from,
-            name: self.name,
-            count: self.count,
-            size,
+            size: self.size + u32::from(self.seen),
             size_b: self.size_b + 1,
             seen: divider,
+            ..self
         }
     }
 
     // A piece up to a point is passed.
-    pub fn passed(self, name: u8, to: Point) -> Scan
+    pub fn passed(self, name: Name, to: Point) -> Scan
         requires { self.count < 1000000 }
         ensures { result ≡ passed_to name to self }
     {
-        let from = self.at;
         Scan {
             at: to,
-            from,
-            name,
+            from: self.at,
+            name: Some(name),
             count: self.count + 1,
-            size: self.size,
-            size_b: self.size_b,
-            seen: self.seen,
+            ..self
         }
     }
 }
 
 // Between two pieces: as many more as the budget says, or all that are left.
 #[cycle(row_break_row_data)]
-pub fn row_break(s: &[u8], kinds: &[u8], st: Scan, budget: usize) -> Step
-    requires { Counted s.now st × Passes kinds.now }
-    ensures { ReadHere (kind_in kinds.now) s.now st budget result }
+pub fn row_break(text: &Text, st: Scan, budget: usize) -> Step
+    requires { Counted text.now.bytes.now st }
+    ensures { ReadHere (kind_in text.now.kinds.now) text.now.bytes.now st budget result }
 {
     if budget == 0 {
         return Step::Paused(st);
     }
     let at = st.at;
-    match ahead(s, kinds, at) {
-        1 => {
-            let to = space_end(s, kinds, at);
-            row_break(s, kinds, st.passed(Name::SpaceOrTab, to), budget - 1)
+    match text.ahead(at) {
+        Kind::Space => {
+            let to = text.space_end(at);
+            row_break(text, st.passed(Name::SpaceOrTab, to), budget - 1)
         }
-        2 => Step::Ended(st),
-        3 => {
-            let to = over(s, at);
+        Kind::End => Step::Ended(st),
+        Kind::Pipe => {
+            let to = over(text.bytes, at);
             row_break(
-                s,
-                kinds,
+                text,
                 st.counted(true).passed(Name::GfmTableCellDivider, to),
                 budget - 1,
             )
         }
-        _ => row_data(s, kinds, st, budget - 1),
+        _ => row_data(text, st, budget - 1),
     }
 }
 
 // At the first byte of a piece of data.
 #[cycle(row_break_row_data)]
-pub fn row_data(s: &[u8], kinds: &[u8], st: Scan, budget: usize) -> Step
-    requires { AtData (kind_in kinds.now) s.now st × Passes kinds.now }
-    ensures { ReadHere (kind_in kinds.now) s.now (stepped st (data_piece (kind_in kinds.now) s.now st)) budget result }
+pub fn row_data(text: &Text, st: Scan, budget: usize) -> Step
+    requires { AtData (kind_in text.now.kinds.now) text.now.bytes.now st }
+    ensures { ReadHere (kind_in text.now.kinds.now) text.now.bytes.now (stepped st (data_piece (kind_in text.now.kinds.now) text.now.bytes.now st)) budget result }
 {
-    let at = st.at;
-    let to = data_end(s, kinds, at);
-    row_break(s, kinds, st.counted(false).passed(Name::Data, to), budget)
+    let to = data_end(text, st.at);
+    row_break(text, st.counted(false).passed(Name::Data, to), budget)
 }
 
 // The whole row: the states are resumed until the line ends.
-pub fn row_end(s: &[u8], kinds: &[u8], st: Scan) -> Scan
-    requires { Counted s.now st × Passes kinds.now }
-    ensures { result ≡ whole (kind_in kinds.now) s.now st }
+pub fn row_end(text: &Text, st: Scan) -> Scan
+    requires { Counted text.now.bytes.now st }
+    ensures { result ≡ whole (kind_in text.now.kinds.now) text.now.bytes.now st }
 {
     let mut q = st;
     loop {
-        match row_break(s, kinds, q, 64) {
+        match row_break(text, q, 64) {
             Step::Paused(t) => {
                 q = t;
             }
@@ -154,37 +141,26 @@ pub fn row_end(s: &[u8], kinds: &[u8], st: Scan) -> Scan
 }
 
 // The state at the start of a row. The first solid byte counts double unless it is a divider.
-pub fn row_start(s: &[u8], kinds: &[u8], p: Point) -> Scan
-    requires { Inside s.now p × Passes kinds.now }
-    ensures { result ≡ start_at (kind_in kinds.now) s.now p }
+pub fn row_start(text: &Text, p: Point) -> Scan
+    requires { Inside text.now.bytes.now p }
+    ensures { result ≡ start_at (kind_in text.now.kinds.now) text.now.bytes.now p }
 {
-    let q = space_end(s, kinds, p);
-    match ahead(s, kinds, q) {
-        3 => Scan {
-            at: p,
-            from: p,
-            name: 0,
-            count: 0,
-            size: 0,
-            size_b: 0,
-            seen: false,
-        },
-        _ => Scan {
-            at: p,
-            from: p,
-            name: 0,
-            count: 0,
-            size: 0,
-            size_b: 1,
-            seen: true,
-        },
+    let seen = text.ahead(text.space_end(p)) != Kind::Pipe;
+    Scan {
+        at: p,
+        from: p,
+        name: None,
+        count: 0,
+        size: 0,
+        size_b: u32::from(seen),
+        seen,
     }
 }
 
 // A row from its start to the end of its line.
-pub fn row(s: &[u8], kinds: &[u8], p: Point) -> Scan
-    requires { Inside s.now p × Passes kinds.now }
-    ensures { RowRead (kind_in kinds.now) (rest_of s.now p) p result }
+pub fn row(text: &Text, p: Point) -> Scan
+    requires { Inside text.now.bytes.now p }
+    ensures { RowRead (kind_in text.now.kinds.now) (rest_of text.now.bytes.now p) p result }
 {
-    row_end(s, kinds, row_start(s, kinds, p))
+    row_end(text, row_start(text, p))
 }

@@ -1,121 +1,94 @@
 // The values of a delimiter row, counted by the places of its bytes.
 ghost use Rattle.std.specs.Prelude.{◌≡◌, ◌≤◌, ◌+◌, length, drop};
-ghost use Rattle.tokenizer.specs.Bytes.{kind_in, Passes};
+ghost use Rattle.tokenizer.specs.Bytes.{kind_in};
 ghost use Rattle.tokenizer.specs.Lines.{line_body};
-ghost use Rattle.tokenizer.specs.Moves.{run_of};
 ghost use Rattle.gfm_table.specs.Heads.{marked};
-ghost use Rattle.gfm_table.specs.Delimiters.{colon, value_end, rest_count, row_count, value_count};
+ghost use Rattle.gfm_table.specs.Delimiters.{colon, value_end, rest_count, row_count, value_count, positive};
 
-use crate::pieces::spaces_end;
-use tokenizer::moves::kind_at;
+use tokenizer::kinds::Kind;
+use tokenizer::text::Text;
 
 // Whether a colon or a divider occurs from a place to the end of its line.
-pub fn marked_from(s: &[u8], kinds: &[u8], at: usize) -> bool
-    requires { Passes kinds.now }
-    ensures { result ≡ marked (kind_in kinds.now) (line_body (drop at s.now)) }
+pub fn marked_from(text: &Text, at: usize) -> bool
+    ensures { result ≡ marked (kind_in text.now.kinds.now) (line_body (drop at text.now.bytes.now)) }
 {
-    let mut i = at;
-    loop {
-        match kind_at(s, kinds, i) {
-            2 => {
-                return false;
+    for i in at..text.bytes.len() {
+        match text.kind_at(i) {
+            Kind::End => {
+                break;
             }
-            3 => {
+            Kind::Pipe | Kind::Colon => {
                 return true;
             }
-            6 => {
-                return true;
-            }
-            _ => {
-                i += 1;
-            }
+            _ => {}
         }
     }
+    false
 }
 
 // Behind a colon, if one stands at a place.
-pub fn colon_end(s: &[u8], kinds: &[u8], at: usize) -> usize
-    requires { Passes kinds.now }
-    ensures { result ≡ at + length (colon (kind_in kinds.now) (line_body (drop at s.now))) }
+pub fn colon_end(text: &Text, at: usize) -> usize
+    ensures { result ≡ at + length (colon (kind_in text.now.kinds.now) (line_body (drop at text.now.bytes.now))) }
 {
-    if kind_at(s, kinds, at) == 6 {
+    if text.kind_at(at) == Kind::Colon {
         return at + 1;
     }
     at
 }
 
-// The end of a run of hyphens.
-pub fn hyphens_end(s: &[u8], kinds: &[u8], at: usize) -> usize
-    requires { Passes kinds.now }
-    ensures { result ≡ at + length (run_of (kind_in kinds.now) 5 (line_body (drop at s.now))) }
+// The end of the stretch at a place if it is a value.
+pub fn value_end(text: &Text, at: usize) -> Option<usize>
+    ensures { result ≡ value_end (kind_in text.now.kinds.now) at (line_body (drop at text.now.bytes.now)) }
 {
-    let mut i = at;
-    while kind_at(s, kinds, i) == 5 {
-        i += 1;
-    }
-    i
-}
-
-// The end of the stretch at a place if it is a value, and 0 if it is none.
-pub fn value_end(s: &[u8], kinds: &[u8], at: usize) -> usize
-    requires { Passes kinds.now }
-    ensures { result ≡ value_end (kind_in kinds.now) at (line_body (drop at s.now)) }
-{
-    let a = colon_end(s, kinds, spaces_end(s, kinds, at));
-    let b = hyphens_end(s, kinds, a);
+    let a = colon_end(text, text.space_stop(at));
+    let b = text.run_stop(a, Kind::Hyphen);
     if a == b {
-        return 0;
+        return None;
     }
-    let e = spaces_end(s, kinds, colon_end(s, kinds, b));
-    match kind_at(s, kinds, e) {
-        2 | 3 => e,
-        _ => 0,
+    let e = text.space_stop(colon_end(text, b));
+    match text.kind_at(e) {
+        Kind::End | Kind::Pipe => Some(e),
+        _ => None,
     }
 }
 
-// The number of stretches from a place on, less an empty last one, if each is a value, and 0 if one is none.
-pub fn values_from(s: &[u8], kinds: &[u8], at: usize) -> u32
-    requires { (length s.now ≤ 65536) × (at ≤ length s.now) × Passes kinds.now }
-    ensures { result ≡ rest_count (kind_in kinds.now) 0 (line_body (drop at s.now)) }
+// The number of stretches from a place on, less an empty last one, if each is a value and there is one. The place goes on by whole stretches.
+pub fn values_from(text: &Text, at: usize) -> Option<u32>
+    requires { (length text.now.bytes.now ≤ 65536) × (at ≤ length text.now.bytes.now) }
+    ensures { result ≡ positive (rest_count (kind_in text.now.kinds.now) 0 (line_body (drop at text.now.bytes.now))) }
 {
     let mut i = at;
     let mut n: u32 = 0;
-    loop {
-        let e = value_end(s, kinds, i);
-        if e == 0 {
-            if kind_at(s, kinds, spaces_end(s, kinds, i)) == 2 {
-                return n;
-            }
-            return 0;
-        }
+    while let Some(e) = value_end(text, i) {
         n += 1;
-        if kind_at(s, kinds, e) != 3 {
-            return n;
+        if text.kind_at(e) != Kind::Pipe {
+            return Some(n);
         }
         i = e + 1;
     }
+    if n == 0 || text.kind_at(text.space_stop(i)) != Kind::End {
+        return None;
+    }
+    Some(n)
 }
 
 // Where the stretches of a row begin: behind a leading divider, or with its line.
-pub fn values_start(s: &[u8], kinds: &[u8], at: usize) -> usize
-    requires { at ≤ length s.now × Passes kinds.now }
-    ensures { (result ≤ length s.now) × (rest_count (kind_in kinds.now) 0 (line_body (drop result s.now)) ≡ row_count (kind_in kinds.now) (line_body (drop at s.now))) }
+pub fn values_start(text: &Text, at: usize) -> usize
+    requires { at ≤ length text.now.bytes.now }
+    ensures { (result ≤ length text.now.bytes.now) × (rest_count (kind_in text.now.kinds.now) 0 (line_body (drop result text.now.bytes.now)) ≡ row_count (kind_in text.now.kinds.now) (line_body (drop at text.now.bytes.now))) }
 {
-    let a = spaces_end(s, kinds, at);
-    if kind_at(s, kinds, a) == 3 {
+    let a = text.space_stop(at);
+    if text.kind_at(a) == Kind::Pipe {
         return a + 1;
     }
     at
 }
 
-// How many values a row has, from a place to the end of its line, or 0 where it is no row of values with a colon or a divider.
-pub fn values_row(s: &[u8], kinds: &[u8], at: usize) -> u32
-    requires { (length s.now ≤ 65536) × (at ≤ length s.now) × Passes kinds.now }
-    ensures { result ≡ value_count (kind_in kinds.now) (line_body (drop at s.now)) }
+// How many values a row has, from a place to the end of its line, if it is a row of values with a colon or a divider.
+pub fn values_row(text: &Text, at: usize) -> Option<u32>
+    requires { (length text.now.bytes.now ≤ 65536) × (at ≤ length text.now.bytes.now) }
+    ensures { result ≡ positive (value_count (kind_in text.now.kinds.now) (line_body (drop at text.now.bytes.now))) }
 {
-    let n = values_from(s, kinds, values_start(s, kinds, at));
-    if n == 0 {
-        return 0;
-    }
-    if marked_from(s, kinds, at) { n } else { 0 }
+    let n = values_from(text, values_start(text, at))?;
+    if marked_from(text, at) { Some(n) } else { None }
 }

@@ -1,5 +1,5 @@
 -- Events and their names.
-use Rattle.std.specs.Prelude.{ℕ}
+use Rattle.std.specs.Prelude.{ℕ, cond, eqb}
 use Rattle.tokenizer.specs.declared.event.Point.{Point}
 use Rattle.tokenizer.specs.declared.event.Event.{Event}
 use Rattle.tokenizer.specs.declared.event.Name.{Name}
@@ -66,6 +66,25 @@ number Name.GfmTableDelimiterMarker = 12
 number Name.GfmTableDelimiterCell = 13
 number Name.GfmTableDelimiterCellValue = 14
 number Name.GfmTableDelimiterFiller = 15
+
+-- the name with a number
+abbrev pub named : ℕ → Name
+named n =
+    cond (eqb n 1) Name.SpaceOrTab
+    (cond (eqb n 2) Name.LineEnding
+    (cond (eqb n 3) Name.Data
+    (cond (eqb n 4) Name.GfmTable
+    (cond (eqb n 5) Name.GfmTableBody
+    (cond (eqb n 6) Name.GfmTableHead
+    (cond (eqb n 7) Name.GfmTableRow
+    (cond (eqb n 8) Name.GfmTableCell
+    (cond (eqb n 9) Name.GfmTableCellText
+    (cond (eqb n 10) Name.GfmTableCellDivider
+    (cond (eqb n 11) Name.GfmTableDelimiterRow
+    (cond (eqb n 12) Name.GfmTableDelimiterMarker
+    (cond (eqb n 13) Name.GfmTableDelimiterCell
+    (cond (eqb n 14) Name.GfmTableDelimiterCellValue
+    Name.GfmTableDelimiterFiller)))))))))))))
 
 -- a slot that holds no event
 abbrev pub blank_event : Event

@@ -1,6 +1,7 @@
 -- Points, and how they move over bytes.
 use Rattle.std.specs.Prelude.{ℕ, ◌+◌, ◌/◌, ◌*◌, cond, List, [], ◌∷◌, eqb, length}
 use Rattle.tokenizer.specs.declared.event.Point.{Point}
+use Rattle.tokenizer.specs.declared.event.LineStart.{LineStart}
 
 -- the start value of a point
 abbrev pub start : Point
@@ -22,3 +23,7 @@ past p u = record { line = p.line; column = column_past p.column u; index = p.in
 -- the first point of the next line, after a line end of n bytes
 abbrev pub next_line : Point → ℕ → Point
 next_line p n = record { line = p.line + 1; column = 1; index = p.index + n; vs = 0 }
+
+-- the point where a line starts
+abbrev pub start_of : LineStart → Point
+start_of w = record { line = w.line; column = 1; index = w.at; vs = 0 }

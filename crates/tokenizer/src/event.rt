@@ -1,6 +1,6 @@
 // Points and events, and the names of events.
 ghost use Rattle.std.specs.Prelude.{◌≡◌, [], ◌∷◌, ◌<◌, ◌≤◌};
-ghost use Rattle.tokenizer.specs.Points.{start, past, next_line};
+ghost use Rattle.tokenizer.specs.Points.{start, column_after, past, next_line, start_of};
 ghost use Rattle.tokenizer.specs.Events.{blank_event, number, enter, leave};
 
 // A place in the sheet. Lines and columns count from 1; `vs` counts the units passed inside a tab.
@@ -11,6 +11,26 @@ pub struct Point {
     pub column: u32,
     pub index: u32,
     pub vs: u8,
+}
+
+// Where a line starts: its number and its index.
+#[derive(Clone, Copy, PartialEq, Eq)]
+pub struct LineStart {
+    pub line: u32,
+    pub at: u32,
+}
+
+impl LineStart {
+    // The point of a line's start.
+    pub fn point(self) -> Point
+        ensures { result ≡ start_of self }
+    {
+        Point {
+            line: self.line,
+            index: self.at,
+            ..Point::START
+        }
+    }
 }
 
 // A kind (0 blank, 1 enter, 2 exit), a name, a point, and a link (0 none, 1 text). They are numbers, since the record is C's, and a list that is
@@ -47,6 +67,17 @@ pub enum Name {
     GfmTableDelimiterFiller = 15,
 }
 
+// The column after a byte: a tab runs to the next stop.
+pub fn column_after(c: u32, b: u8) -> u32
+    requires { c < 1000000 }
+    ensures { result ≡ column_after c b }
+{
+    if b == b'\t' {
+        return (c + (Point::TAB_STOP - 1)) / Point::TAB_STOP * Point::TAB_STOP + 1;
+    }
+    c + 1
+}
+
 impl Point {
     pub const START: Point = Point {
         line: 1,
@@ -73,16 +104,8 @@ impl Point {
         requires { (self.column < 1000000) × (self.index < 1000000) }
         ensures { result ≡ past self (b ∷ []) }
     {
-        if b == b'\t' {
-            return Point {
-                column: (self.column + (Self::TAB_STOP - 1)) / Self::TAB_STOP * Self::TAB_STOP + 1,
-                index: self.index + 1,
-                vs: 0,
-                ..self
-            };
-        }
         Point {
-            column: self.column + 1,
+            column: column_after(self.column, b),
             index: self.index + 1,
             vs: 0,
             ..self

@@ -1,13 +1,8 @@
--- `Point::over` meets its contract: a tab runs to the next stop, any other byte is one column.
+-- `Point::over` meets its contract: the column is the one after the byte.
 -- Assumes nothing.
-use borrow.Author.Tests.{eq-eqb, ne_eqb}
-use Rattle.tokenizer.specs.Points.{column_past, column_after}
+use Rattle.tokenizer.specs.Points.{column_past}
 use Rattle.tokenizer.proofs.event.Point.over.Goals as goal
 
-pub returns-then-b-eq9 : goal.returns-then-b-eq9
-unfolding column_past column_after
-returns-then-b-eq9 c = rw (eq-eqb _ _ c.if-b-eq9.true)
-
 pub returns : goal.returns
-unfolding column_past column_after
-returns c = rw (ne_eqb _ _ c.if-b-eq9.false)
+unfolding column_past
+returns c = rw c.column_after.ensures
