@@ -1,11 +1,11 @@
 -- A head by its point.
-use Rattle.std.specs.Prelude.{ℕ, List, Bool, cond, false, eqb, length}
+use Rattle.std.specs.Prelude.{ℕ, List, Bool, false, length, Result}
 use Rattle.tokenizer.specs.declared.event.Point.{Point}
+use Rattle.tokenizer.specs.declared.refusal.Refusal.{Refusal}
 use Rattle.tokenizer.specs.Points.{past}
+use Rattle.tokenizer.specs.Refusals.{answered}
 use Rattle.tokenizer.specs.Moves.{rest_of, line_at, after}
 use Rattle.gfm_table.specs.declared.heads.Opened.{Opened}
-use Rattle.gfm_table.specs.declared.heads.Answer.{Answer}
-use Rattle.gfm_table.specs.declared.heads.Answer.TheVariants.{Refused, Accepted}
 use Rattle.gfm_table.specs.Rows.{row_pieces}
 use Rattle.gfm_table.specs.Heads.{head_refusal, head_cells}
 
@@ -20,8 +20,6 @@ module _ (kind : ℕ → ℕ) where
         end = past (after s p) (rest_of s (after s p));
       }
 
-  -- a head at a point: refused, or what it opens
-  abbrev pub head_at : List ℕ → Point → Bool → Bool → Answer
-  head_at s p on stray =
-      let n = head_refusal kind on stray (line_at s p) (line_at s (after s p)) in
-      cond (eqb n 0) (Accepted (opened_at s p)) (Refused n)
+  -- a head at a point: what it opens, or the question that it gets a "no" to
+  abbrev pub head_at : List ℕ → Point → Bool → Bool → Result Opened Refusal
+  head_at s p on stray = answered (head_refusal kind on stray (line_at s p) (line_at s (after s p))) (opened_at s p)

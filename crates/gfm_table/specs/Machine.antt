@@ -1,6 +1,7 @@
 -- What the row machine's promises cite: the line ahead, runs of data, and what a row's pieces make of a state.
-use Rattle.std.specs.Prelude.{ℕ, zero, suc, ◌+◌, ◌≤◌, ◌<◌, ◌≡◌, List, [], ◌∷◌, Bool, false, cond, ◌||◌, ◌&&◌, not, eqb, leb, length, drop}
+use Rattle.std.specs.Prelude.{ℕ, zero, suc, ◌+◌, ◌≤◌, ◌<◌, ◌≡◌, List, [], ◌∷◌, Bool, false, cond, ◌||◌, ◌&&◌, not, eqb, leb, length, drop, Some, None}
 use Rattle.tokenizer.specs.declared.event.Point.{Point}
+use Rattle.tokenizer.specs.declared.event.Name.{Name}
 use Rattle.tokenizer.specs.Moves.{rest_of, Inside}
 use Rattle.gfm_table.specs.declared.states.Scan.{Scan}
 use Rattle.gfm_table.specs.declared.states.Step.{Step}
@@ -44,8 +45,8 @@ counted_as divider q =
     record { at = q.at; from = q.from; name = q.name; count = q.count; size = cond q.seen (q.size + 1) q.size; size_b = q.size_b + 1; seen = divider }
 
 -- a piece of the name n that ends at a point
-abbrev pub passed_to : ℕ → Point → Scan → Scan
-passed_to n p q = record { at = p; from = q.at; name = n; count = q.count + 1; size = q.size; size_b = q.size_b; seen = q.seen }
+abbrev pub passed_to : Name → Point → Scan → Scan
+passed_to n p q = record { at = p; from = q.at; name = Some n; count = q.count + 1; size = q.size; size_b = q.size_b; seen = q.seen }
 
 -- a piece is read: counted if it is no whitespace, and passed
 abbrev pub stepped : Scan → Piece → Scan
@@ -53,7 +54,7 @@ stepped q x =
     record {
       at = past q.at x.text;
       from = q.at;
-      name = x.name;
+      name = Some (Events.named x.name);
       count = q.count + 1;
       size = cond (is_solid x.name && q.seen) (q.size + 1) q.size;
       size_b = cond (is_solid x.name) (q.size_b + 1) q.size_b;
@@ -120,7 +121,7 @@ module _ (kind : ℕ → ℕ) where
   abbrev pub start_at : List ℕ → Point → Scan
   start_at s p =
       let led = pipe_first (unindented kind (rest_of s p)) in
-      record { at = p; from = p; name = 0; count = 0; size = 0; size_b = cond led 0 1; seen = not led }
+      record { at = p; from = p; name = None; count = 0; size = 0; size_b = cond led 0 1; seen = not led }
 
   -- a row with the body u is read from p to its end
   pub record RowRead (u : List ℕ) (p : Point) (r : Scan) : Type 0 where

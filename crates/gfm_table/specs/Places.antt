@@ -1,7 +1,9 @@
 -- The pieces of a row by the places of its bytes, and their events written to slots.
-use Rattle.std.specs.Prelude.{ℕ, ◌+◌, ◌*◌, List, [], ◌∷◌, length}
+use Rattle.std.specs.Prelude.{ℕ, ◌+◌, ◌*◌, List, [], ◌∷◌, length, Option, Some, None}
 use Rattle.tokenizer.specs.declared.event.Point.{Point}
 use Rattle.tokenizer.specs.declared.event.Event.{Event}
+use Rattle.tokenizer.specs.declared.event.Name.{Name}
+use Rattle.tokenizer.specs.Events.{named}
 use Rattle.tokenizer.specs.Points.{column_past, past}
 use Rattle.tokenizer.specs.Slots.{wrote}
 use Rattle.tokenizer.specs.Moves.{rest_of}
@@ -16,13 +18,13 @@ abbrev pub point_in : ℕ → ℕ → ℕ → Point
 point_in l i c = record { line = l; column = c; index = i; vs = 0 }
 
 -- the piece of the name n and the bytes t, from the place i and the column c on
-abbrev pub placed : ℕ → ℕ → ℕ → List ℕ → Placed
+abbrev pub placed : Name → ℕ → ℕ → List ℕ → Placed
 placed n i c t = record { name = n; end = i + length t; column = column_past c t }
 
--- the first of some pieces, or that there is none
-abbrev pub next_at : ℕ → ℕ → List Piece → Placed
-next_at i c [] = record { name = 0; end = i; column = c }
-next_at i c (x ∷ xs) = placed x.name i c x.text
+-- the first of some pieces, if there is one
+abbrev pub next_at : ℕ → ℕ → List Piece → Option Placed
+next_at i c [] = None
+next_at i c (x ∷ xs) = Some (placed (named x.name) i c x.text)
 
 module _ (kind : ℕ → ℕ) where
   -- where the pieces of a row end that are written from a point on, from the slot k on

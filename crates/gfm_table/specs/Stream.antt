@@ -1,15 +1,14 @@
 -- The raw events of a head or a row, one at a time.
-use Rattle.std.specs.Prelude.{ℕ, zero, suc, ◌≤◌, List, [], ◌∷◌, cond, false, eqb, drop}
+use Rattle.std.specs.Prelude.{ℕ, zero, suc, ◌≤◌, List, [], ◌∷◌, Bool, true, false, cond, eqb, drop, Option, Some, None}
 use Rattle.tokenizer.specs.declared.event.Point.{Point}
 use Rattle.tokenizer.specs.declared.event.Event.{Event}
 use Rattle.tokenizer.specs.Points.{past, next_line}
-use Rattle.tokenizer.specs.Events.{LineEnding, GfmTableHead, GfmTableRow, GfmTableDelimiterRow, blank_event, enter, leave}
+use Rattle.tokenizer.specs.Events.{LineEnding, GfmTableHead, GfmTableRow, GfmTableDelimiterRow, blank_event, number, named, enter, leave}
 use Rattle.tokenizer.specs.Lines.{end_at}
 use Rattle.tokenizer.specs.Moves.{rest_of, Inside}
 use Rattle.gfm_table.specs.declared.stream.Part.{Part}
 use Rattle.gfm_table.specs.declared.stream.Part.TheVariants.{Head, Delimiter, Body}
 use Rattle.gfm_table.specs.declared.stream.Pieced.{Pieced}
-use Rattle.gfm_table.specs.declared.stream.Pieced.TheVariants.{To, Nothing}
 use Rattle.gfm_table.specs.declared.stream.Cursor.{Cursor}
 use Rattle.gfm_table.specs.declared.stream.Cursor.TheVariants.{Begin, Enter, Between, Entered, Ended, Broken}
 use Rattle.gfm_table.specs.declared.stream.Stepped.{Stepped}
@@ -21,6 +20,11 @@ name_of Head = GfmTableRow
 name_of Delimiter = GfmTableDelimiterRow
 name_of Body = GfmTableRow
 
+-- a delimiter row, or a body row
+abbrev pub part_of : Bool → Part
+part_of true = Delimiter
+part_of false = Body
+
 -- the pieces of a row
 abbrev pub pieces_of : (ℕ → ℕ) → Part → List ℕ → List Piece
 pieces_of kind Head u = row_pieces kind false u
@@ -28,18 +32,18 @@ pieces_of kind Delimiter u = delimiter_pieces kind u
 pieces_of kind Body u = row_pieces kind false u
 
 -- the first of some pieces: its name and its end
-abbrev pub first_of : Point → List Piece → Pieced
-first_of p [] = Nothing
-first_of p (x ∷ xs) = To x.name (past p x.text)
+abbrev pub first_of : Point → List Piece → Option Pieced
+first_of p [] = None
+first_of p (x ∷ xs) = Some (record { name = named x.name; end = past p x.text })
 
 -- the next piece of a row at a point
-abbrev pub piece_at : (ℕ → ℕ) → List ℕ → Part → Point → Pieced
+abbrev pub piece_at : (ℕ → ℕ) → List ℕ → Part → Point → Option Pieced
 piece_at kind s t p = first_of p (pieces_of kind t (rest_of s p))
 
 -- between two pieces the next is entered, or the row is left
-abbrev pub between_of : Part → Point → Pieced → Stepped
-between_of t p (To n q) = record { event = enter n p; next = Entered t n q }
-between_of t p Nothing = record { event = leave (name_of t) p; next = Ended t p }
+abbrev pub between_of : Part → Point → Option Pieced → Stepped
+between_of t p (Some x) = record { event = enter (number x.name) p; next = Entered t x.name x.end }
+between_of t p None = record { event = leave (name_of t) p; next = Ended t p }
 
 -- nothing more comes from a point on
 abbrev pub over_at : Point → Stepped
@@ -61,7 +65,7 @@ module _ (kind : ℕ → ℕ) where
   step_of s (Begin p) = record { event = enter GfmTableHead p; next = Enter Head p }
   step_of s (Enter t p) = record { event = enter (name_of t) p; next = Between t p }
   step_of s (Between t p) = between_of t p (piece_at kind s t p)
-  step_of s (Entered t n p) = record { event = leave n p; next = Between t p }
+  step_of s (Entered t n p) = record { event = leave (number n) p; next = Between t p }
   step_of s (Ended t p) = ended_of s t p
   step_of s (Broken t p) = record { event = leave LineEnding p; next = Enter t p }
 

@@ -1,59 +1,53 @@
 // What `head` and `row` answer, before a slot is written.
-ghost use Rattle.std.specs.Prelude.{◌≡◌, ◌||◌, ◌≤◌, ◌+◌, ◌*◌, length};
-ghost use Rattle.tokenizer.specs.Bytes.{kind_in, Passes};
+ghost use Rattle.std.specs.Prelude.{◌≡◌, ◌≤◌, ◌+◌, ◌*◌, length};
+ghost use Rattle.tokenizer.specs.Bytes.{kind_in};
 ghost use Rattle.tokenizer.specs.Moves.{rest_of, Inside};
+ghost use Rattle.tokenizer.specs.Refusals.{answered};
 ghost use Rattle.gfm_table.specs.Rows.{delimiter_pieces};
-ghost use Rattle.gfm_table.specs.Calls.{place_refusal, point_at, nowhere, head_refused, head_found, head_plan, row_refused, row_found, row_plan};
+ghost use Rattle.gfm_table.specs.Calls.{place_refusal, point_at, head_plan, row_plan};
 
-use crate::heads::{Answer, Opened, head_at};
+use crate::heads::{Opened, head_at};
 use crate::pieces::marks_from;
-use crate::states::{Scan, row};
+use crate::states::row;
 use crate::stream::{Cursor, Part};
 use tokenizer::event::Point;
-use tokenizer::lines::{is_blank, line_number, starts_line};
+use tokenizer::lines::{line_number, starts_line};
+use tokenizer::refusal::Refusal;
+use tokenizer::text::Text;
 
-// A head is refused by a number, or accepted with the number of its events, the offset where its delimiter row ends, and its cells.
-#[derive(Clone, Copy)]
-pub enum Head {
-    Refused(u8),
-    Accepted {
-        events: usize,
-        end: usize,
-        cells: usize,
-    },
+// Of a head that is accepted: the number of its events, the offset where its delimiter row ends, and its cells.
+#[derive(Clone, Copy, PartialEq, Eq)]
+pub struct HeadCounts {
+    pub events: usize,
+    pub end: usize,
+    pub cells: usize,
 }
 
-// A row is refused by a number, or accepted with the number of its events and the offset where it ends.
-#[derive(Clone, Copy)]
-pub enum Row {
-    Refused(u8),
-    Accepted { events: usize, end: usize },
+// Of a row that is accepted: the number of its events and the offset where it ends.
+#[derive(Clone, Copy, PartialEq, Eq)]
+pub struct RowCounts {
+    pub events: usize,
+    pub end: usize,
 }
 
-// The answer, and where the events come from.
+// What is answered, and where the events come from.
 #[derive(Clone, Copy)]
-pub struct HeadPlan {
-    pub answer: Head,
-    pub cursor: Cursor,
-}
-
-#[derive(Clone, Copy)]
-pub struct RowPlan {
-    pub answer: Row,
+pub struct Plan<A> {
+    pub answer: A,
     pub cursor: Cursor,
 }
 
 // Questions 1 and 2.
-pub fn place_refusal(s: &[u8], at: usize) -> u8
-    ensures { result ≡ place_refusal s.now at }
+pub fn place_asked(s: &[u8], at: usize) -> Result<(), Refusal>
+    ensures { result ≡ answered (place_refusal s.now at) tt }
 {
     if 65536 < s.len() {
-        return 1;
+        return Err(Refusal::SheetTooLong);
     }
-    if starts_line(s, at) {
-        return 0;
+    if !starts_line(s, at) {
+        return Err(Refusal::NoLineStart);
     }
-    2
+    Ok(())
 }
 
 // The point of a line start.
@@ -63,128 +57,73 @@ pub fn point_at(s: &[u8], at: usize) -> Point
 {
     Point {
         line: line_number(s, at),
-        column: 1,
         index: at as u32,
-        vs: 0,
-    }
-}
-
-// A cursor that gives nothing.
-pub fn no_events() -> Cursor
-    ensures { result ≡ nowhere }
-{
-    Cursor::Ended(Part::Body, Point::start())
-}
-
-// A head is refused.
-pub fn head_refused(k: u8) -> HeadPlan
-    ensures { result ≡ head_refused k }
-{
-    HeadPlan {
-        answer: Head::Refused(k),
-        cursor: no_events(),
+        ..Point::START
     }
 }
 
 // How many events a head has.
-pub fn head_events(s: &[u8], kinds: &[u8], o: Opened) -> usize
-    requires { Inside s.now o.delimiter × (o.pieces ≤ 65536) × Passes kinds.now }
-    ensures { result ≡ 2 * (o.pieces + length (delimiter_pieces (kind_in kinds.now) (rest_of s.now o.delimiter))) + 8 }
+pub fn head_events(text: &Text, o: Opened) -> usize
+    requires { Inside text.now.bytes.now o.delimiter × (o.pieces ≤ 65536) }
+    ensures { result ≡ 2 * (o.pieces + length (delimiter_pieces (kind_in text.now.kinds.now) (rest_of text.now.bytes.now o.delimiter))) + 8 }
 {
-    let d = o.delimiter;
-    2 * (o.pieces + marks_from(s, kinds, d.index as usize)) as usize + 8
-}
-
-// A head that was found: whether the slots suffice.
-pub fn head_found(s: &[u8], kinds: &[u8], p: Point, o: Opened, slots: usize) -> HeadPlan
-    requires { Inside s.now o.delimiter × (o.pieces ≤ 65536) × Passes kinds.now }
-    ensures { result ≡ head_found (2 * (o.pieces + length (delimiter_pieces (kind_in kinds.now) (rest_of s.now o.delimiter))) + 8) p o slots }
-{
-    let n = head_events(s, kinds, o);
-    if slots < n {
-        return head_refused(9);
-    }
-    let e = o.end;
-    HeadPlan {
-        answer: Head::Accepted {
-            events: n,
-            end: e.index as usize,
-            cells: o.cells as usize,
-        },
-        cursor: Cursor::Begin(p),
-    }
+    2 * (o.pieces + marks_from(text, o.delimiter.index as usize)) as usize + 8
 }
 
 // Everything about a head but its slots.
-pub fn head_plan(s: &[u8], kinds: &[u8], at: usize, on: bool, stray: bool, slots: usize) -> HeadPlan
-    requires { Passes kinds.now }
-    ensures { result ≡ head_plan (kind_in kinds.now) s.now at on stray slots }
+pub fn head_plan(
+    text: &Text,
+    at: usize,
+    on: bool,
+    stray: bool,
+    slots: usize,
+) -> Result<Plan<HeadCounts>, Refusal>
+    ensures { result ≡ head_plan (kind_in text.now.kinds.now) text.now.bytes.now at on stray slots }
 {
-    let k = place_refusal(s, at);
-    if k != 0 {
-        return head_refused(k);
+    place_asked(text.bytes, at)?;
+    let p = point_at(text.bytes, at);
+    let opened = head_at(text, p, on, stray)?;
+    let events = head_events(text, opened);
+    if slots < events {
+        return Err(Refusal::TooFewRawSlots);
     }
-    let p = point_at(s, at);
-    match head_at(s, kinds, p, on, stray) {
-        Answer::Refused(n) => head_refused(n),
-        Answer::Accepted(o) => head_found(s, kinds, p, o, slots),
-    }
-}
-
-// A row that was read: whether the slots suffice.
-pub fn row_found(p: Point, q: Scan, slots: usize) -> RowPlan
-    requires { q.count ≤ 65536 }
-    ensures { result ≡ row_found (2 * q.count + 2) p q.at slots }
-{
-    let n = 2 * q.count as usize + 2;
-    if slots < n {
-        return row_refused(9);
-    }
-    let e = q.at;
-    RowPlan {
-        answer: Row::Accepted {
-            events: n,
-            end: e.index as usize,
+    Ok(Plan {
+        answer: HeadCounts {
+            events,
+            end: opened.end.index as usize,
+            cells: opened.cells as usize,
         },
-        cursor: Cursor::Enter(Part::Body, p),
-    }
-}
-
-// A row is refused.
-pub fn row_refused(k: u8) -> RowPlan
-    ensures { result ≡ row_refused k }
-{
-    RowPlan {
-        answer: Row::Refused(k),
-        cursor: no_events(),
-    }
+        cursor: Cursor::Begin(p),
+    })
 }
 
 // Everything about a row but its slots.
-pub fn row_plan(s: &[u8], kinds: &[u8], at: usize, lazy: bool, slots: usize) -> RowPlan
-    requires { Passes kinds.now }
-    ensures { result ≡ row_plan (kind_in kinds.now) s.now at lazy slots }
+pub fn row_plan(
+    text: &Text,
+    at: usize,
+    lazy: bool,
+    slots: usize,
+) -> Result<Plan<RowCounts>, Refusal>
+    ensures { result ≡ row_plan (kind_in text.now.kinds.now) text.now.bytes.now at lazy slots }
 {
-    let k = place_refusal(s, at);
-    if k != 0 {
-        return row_refused(k);
-    }
+    place_asked(text.bytes, at)?;
     if lazy {
-        return row_refused(5);
+        return Err(Refusal::LazyOrPierced);
     }
-    let p = point_at(s, at);
-    if is_blank(s, kinds, p) {
-        return row_refused(8);
+    let p = point_at(text.bytes, at);
+    if text.is_blank(p) {
+        return Err(Refusal::BlankRow);
     }
-    row_found(p, row(s, kinds, p), slots)
-}
-
-// Whether the second line of a head is lazy or pierced.
-pub fn either(lazy: bool, pierced: bool) -> bool
-    ensures { result ≡ lazy || pierced }
-{
-    if lazy {
-        return true;
+    let q = row(text, p);
+    let events = 2 * q.count as usize + 2;
+    if slots < events {
+        return Err(Refusal::TooFewRawSlots);
     }
-    pierced
+    Ok(Plan {
+        answer: RowCounts {
+            events,
+            end: q.at.index as usize,
+        },
+        cursor: Cursor::Enter(Part::Body, p),
+    })
 }

@@ -5,10 +5,13 @@ ghost use Rattle.std.specs.Prelude.{◌≡◌, ◌||◌, length};
 ghost use Rattle.tokenizer.specs.Bytes.{kind_of};
 ghost use Rattle.gfm_table.specs.Calls.{head_of, head_slots, row_of, row_slots};
 
-use calls::{Head, Row, either, head_plan, row_plan};
+use calls::{HeadCounts, RowCounts, head_plan, row_plan};
 use stream::fill;
 use tokenizer::event::Event;
 use tokenizer::kinds::builtin;
+use tokenizer::refusal::Refusal;
+use tokenizer::slots::clear_from;
+use tokenizer::text::Text;
 
 pub mod calls;
 pub mod delimiter;
@@ -28,30 +31,43 @@ pub fn head(
     lazy: bool,
     pierced: bool,
     raw: &mut [Event],
-) -> Head
+) -> Result<HeadCounts, Refusal>
     ensures { (result ≡ head_of kind_of sheet.now offset code_indented (lazy || pierced) (length raw.old)) × (raw.new ≡ head_slots kind_of sheet.now offset code_indented (lazy || pierced) (length raw.old)) }
 {
     let kinds = builtin();
-    let plan = head_plan(
-        sheet,
-        &kinds,
-        offset,
-        code_indented,
-        either(lazy, pierced),
-        raw.len(),
-    );
-    let cursor = plan.cursor;
-    fill(sheet, &kinds, cursor, raw);
-    plan.answer
+    let text = Text {
+        bytes: sheet,
+        kinds: &kinds,
+    };
+    match head_plan(&text, offset, code_indented, lazy || pierced, raw.len()) {
+        Ok(plan) => {
+            fill(&text, plan.cursor, raw);
+            Ok(plan.answer)
+        }
+        Err(refusal) => {
+            clear_from(raw, 0, Event::BLANK);
+            Err(refusal)
+        }
+    }
 }
 
 // A body row at an offset: one line of the sheet.
-pub fn row(sheet: &[u8], offset: usize, lazy: bool, raw: &mut [Event]) -> Row
+pub fn row(sheet: &[u8], offset: usize, lazy: bool, raw: &mut [Event]) -> Result<RowCounts, Refusal>
     ensures { (result ≡ row_of kind_of sheet.now offset lazy (length raw.old)) × (raw.new ≡ row_slots kind_of sheet.now offset lazy (length raw.old)) }
 {
     let kinds = builtin();
-    let plan = row_plan(sheet, &kinds, offset, lazy, raw.len());
-    let cursor = plan.cursor;
-    fill(sheet, &kinds, cursor, raw);
-    plan.answer
+    let text = Text {
+        bytes: sheet,
+        kinds: &kinds,
+    };
+    match row_plan(&text, offset, lazy, raw.len()) {
+        Ok(plan) => {
+            fill(&text, plan.cursor, raw);
+            Ok(plan.answer)
+        }
+        Err(refusal) => {
+            clear_from(raw, 0, Event::BLANK);
+            Err(refusal)
+        }
+    }
 }

@@ -1,29 +1,29 @@
 // The raw events of a head or a row, one at a time. A cursor goes in, an event and the next cursor come out.
 ghost use Rattle.std.specs.Prelude.{◌≡◌, length};
-ghost use Rattle.tokenizer.specs.Bytes.{kind_in, Passes};
+ghost use Rattle.tokenizer.specs.Bytes.{kind_in};
 ghost use Rattle.tokenizer.specs.Moves.{Inside};
+ghost use Rattle.tokenizer.specs.Events.{number};
 ghost use Rattle.gfm_table.specs.Stream.{name_of, piece_at, between_of, over_at, ended_of, step_of, gave, Good};
-ghost use Rattle.gfm_table.specs.declared.stream.Part.TheVariants.{Head, Delimiter, Body};
+ghost use Rattle.gfm_table.specs.declared.stream.Part.TheVariants.{Head};
 
-use crate::delimiter::filler_end;
-use crate::states::data_end;
+use crate::rows::next_piece;
 use tokenizer::event::{Event, Name, Point};
 use tokenizer::lines::end_at;
-use tokenizer::moves::{ahead, over, space_end};
+use tokenizer::text::Text;
 
 // Which line of a table is read.
-#[derive(Clone, Copy)]
+#[derive(Clone, Copy, PartialEq, Eq)]
 pub enum Part {
     Head,
     Delimiter,
     Body,
 }
 
-// The next piece of a row: its name and its end, or none.
+// A piece of a row: its name and its end.
 #[derive(Clone, Copy)]
-pub enum Pieced {
-    To(u8, Point),
-    Nothing,
+pub struct Pieced {
+    pub name: Name,
+    pub end: Point,
 }
 
 // Before a head, before a row, between two pieces, inside one that ends at the point, at the end of a row, or inside the line end before
@@ -33,7 +33,7 @@ pub enum Cursor {
     Begin(Point),
     Enter(Part, Point),
     Between(Part, Point),
-    Entered(Part, u8, Point),
+    Entered(Part, Name, Point),
     Ended(Part, Point),
     Broken(Part, Point),
 }
@@ -44,68 +44,50 @@ pub struct Stepped {
     pub next: Cursor,
 }
 
-// The name of a row.
-pub fn row_name(part: Part) -> u8
-    ensures { result ≡ name_of part }
-{
-    match part {
-        Part::Head => Name::GfmTableRow,
-        Part::Delimiter => Name::GfmTableDelimiterRow,
-        Part::Body => Name::GfmTableRow,
+impl Part {
+    // The name of a row.
+    pub fn row_name(self) -> Name
+        ensures { number result ≡ name_of self }
+    {
+        match self {
+            Part::Delimiter => Name::GfmTableDelimiterRow,
+            Part::Head | Part::Body => Name::GfmTableRow,
+        }
     }
 }
 
-// The next piece of a head line or a body row.
-pub fn text_piece(s: &[u8], kinds: &[u8], p: Point) -> Pieced
-    requires { Inside s.now p × Passes kinds.now }
-    ensures { result ≡ piece_at (kind_in kinds.now) s.now Body p }
+// The next piece of a row, if one is left.
+pub fn piece_at(text: &Text, part: Part, p: Point) -> Option<Pieced>
+    requires { Inside text.now.bytes.now p }
+    ensures { result ≡ piece_at (kind_in text.now.kinds.now) text.now.bytes.now part p }
 {
-    match ahead(s, kinds, p) {
-        1 => Pieced::To(Name::SpaceOrTab, space_end(s, kinds, p)),
-        2 => Pieced::Nothing,
-        3 => Pieced::To(Name::GfmTableCellDivider, over(s, p)),
-        _ => Pieced::To(Name::Data, data_end(s, kinds, p)),
-    }
-}
-
-// The next piece of a delimiter row.
-pub fn mark_piece(s: &[u8], kinds: &[u8], p: Point) -> Pieced
-    requires { Inside s.now p × Passes kinds.now }
-    ensures { result ≡ piece_at (kind_in kinds.now) s.now Delimiter p }
-{
-    match ahead(s, kinds, p) {
-        1 => Pieced::To(Name::SpaceOrTab, space_end(s, kinds, p)),
-        2 => Pieced::Nothing,
-        3 => Pieced::To(Name::GfmTableCellDivider, over(s, p)),
-        6 => Pieced::To(Name::GfmTableDelimiterMarker, over(s, p)),
-        _ => Pieced::To(Name::GfmTableDelimiterFiller, filler_end(s, kinds, p)),
-    }
-}
-
-// The next piece of any row.
-pub fn piece_at(s: &[u8], kinds: &[u8], part: Part, p: Point) -> Pieced
-    requires { Inside s.now p × Passes kinds.now }
-    ensures { result ≡ piece_at (kind_in kinds.now) s.now part p }
-{
-    match part {
-        Part::Head => text_piece(s, kinds, p),
-        Part::Delimiter => mark_piece(s, kinds, p),
-        Part::Body => text_piece(s, kinds, p),
-    }
+    let piece = match part {
+        Part::Delimiter => next_piece::<true>(text, p.index, p.column)?,
+        Part::Head | Part::Body => next_piece::<false>(text, p.index, p.column)?,
+    };
+    Some(Pieced {
+        name: piece.name,
+        end: Point {
+            column: piece.column,
+            index: piece.end,
+            vs: 0,
+            ..p
+        },
+    })
 }
 
 // Between two pieces: the next is entered, or the row is left.
-pub fn step_between(s: &[u8], kinds: &[u8], part: Part, p: Point) -> Stepped
-    requires { Inside s.now p × Passes kinds.now }
-    ensures { result ≡ between_of part p (piece_at (kind_in kinds.now) s.now part p) }
+pub fn step_between(text: &Text, part: Part, p: Point) -> Stepped
+    requires { Inside text.now.bytes.now p }
+    ensures { result ≡ between_of part p (piece_at (kind_in text.now.kinds.now) text.now.bytes.now part p) }
 {
-    match piece_at(s, kinds, part, p) {
-        Pieced::To(n, q) => Stepped {
-            event: Event::enter(n, p),
-            next: Cursor::Entered(part, n, q),
+    match piece_at(text, part, p) {
+        Some(piece) => Stepped {
+            event: Event::enter(piece.name, p),
+            next: Cursor::Entered(part, piece.name, piece.end),
         },
-        Pieced::Nothing => Stepped {
-            event: Event::exit(row_name(part), p),
+        None => Stepped {
+            event: Event::exit(part.row_name(), p),
             next: Cursor::Ended(part, p),
         },
     }
@@ -151,10 +133,10 @@ pub fn step_ended(s: &[u8], part: Part, p: Point) -> Stepped
     }
 }
 
-// The next event, and the cursor after it. At the end blank events come for ever.
-pub fn step(s: &[u8], kinds: &[u8], c: Cursor) -> Stepped
-    requires { Good s.now c × Passes kinds.now }
-    ensures { result ≡ step_of (kind_in kinds.now) s.now c }
+// The next event, and the cursor after it. At the end blank events come for ever, so that slots behind the last event are blank by themselves.
+pub fn step(text: &Text, c: Cursor) -> Stepped
+    requires { Good text.now.bytes.now c }
+    ensures { result ≡ step_of (kind_in text.now.kinds.now) text.now.bytes.now c }
 {
     match c {
         Cursor::Begin(p) => Stepped {
@@ -162,15 +144,15 @@ pub fn step(s: &[u8], kinds: &[u8], c: Cursor) -> Stepped
             next: Cursor::Enter(Part::Head, p),
         },
         Cursor::Enter(part, p) => Stepped {
-            event: Event::enter(row_name(part), p),
+            event: Event::enter(part.row_name(), p),
             next: Cursor::Between(part, p),
         },
-        Cursor::Between(part, p) => step_between(s, kinds, part, p),
-        Cursor::Entered(part, n, p) => Stepped {
-            event: Event::exit(n, p),
+        Cursor::Between(part, p) => step_between(text, part, p),
+        Cursor::Entered(part, name, p) => Stepped {
+            event: Event::exit(name, p),
             next: Cursor::Between(part, p),
         },
-        Cursor::Ended(part, p) => step_ended(s, part, p),
+        Cursor::Ended(part, p) => step_ended(text.bytes, part, p),
         Cursor::Broken(part, p) => Stepped {
             event: Event::exit(Name::LineEnding, p),
             next: Cursor::Enter(part, p),
@@ -179,16 +161,14 @@ pub fn step(s: &[u8], kinds: &[u8], c: Cursor) -> Stepped
 }
 
 // Every slot is filled with what comes from a cursor.
-pub fn fill(sheet: &[u8], kinds: &[u8], c: Cursor, slots: &mut [Event])
-    requires { Good sheet.now c × Passes kinds.now }
-    ensures { slots.new ≡ gave (kind_in kinds.now) sheet.now (length slots.old) c }
+pub fn fill(text: &Text, c: Cursor, slots: &mut [Event])
+    requires { Good text.now.bytes.now c }
+    ensures { slots.new ≡ gave (kind_in text.now.kinds.now) text.now.bytes.now (length slots.old) c }
 {
     let mut cursor = c;
-    let mut i = 0;
-    while i < slots.len() {
-        let r = step(sheet, kinds, cursor);
-        slots[i] = r.event;
+    for slot in slots.iter_mut() {
+        let r = step(text, cursor);
+        *slot = r.event;
         cursor = r.next;
-        i += 1;
     }
 }
