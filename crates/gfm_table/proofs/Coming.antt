@@ -7,16 +7,16 @@ use mathlib.Core.List.{List, [], ◌∷◌, ◌++◌}
 use native.Mathlib.Omega.{arith}
 use borrow.Author.Tests.{eqb-true, eqb-false}
 use lib.Dec.{eqb}
-use lib.ListN.{length, drop, length-drop}
+use lib.ListN.{length, drop, get_or, length-drop}
 use Rattle.tokenizer.specs.declared.event.Point.{Point}
 use Rattle.tokenizer.specs.declared.event.Event.{Event}
 use Rattle.tokenizer.specs.Bytes.{Reads}
 use Rattle.tokenizer.specs.Points.{past, next_line}
-use Rattle.tokenizer.specs.Events.{LineEnding, GfmTableHead, enter, leave}
+use Rattle.tokenizer.specs.Events.{LineEnding, GfmTableHead, number, named, enter, leave}
 use Rattle.tokenizer.specs.Slots.{slots_of}
-use Rattle.tokenizer.specs.Lines.{end_at}
+use Rattle.tokenizer.specs.Lines.{end_at, indent}
 use Rattle.tokenizer.specs.Moves.{ahead_of, rest_of, Inside}
-use Rattle.tokenizer.proofs.Ahead.{goes, ends, past-append, past-none}
+use Rattle.tokenizer.proofs.Ahead.{Front, goes, ends, past-append, past-none}
 use Rattle.tokenizer.proofs.Ends.{end_fits}
 use Rattle.gfm_table.specs.declared.stream.Part.{Part}
 use Rattle.gfm_table.specs.declared.stream.Part.TheVariants.{Head, Delimiter, Body}
@@ -41,6 +41,7 @@ module _ {kind : ℕ → ℕ} (ok : Reads kind) where
 module _ (kind : ℕ → ℕ) where
   pub record Piecing (s : List ℕ) (t : Part) (p : Point) (n : ℕ) (u : List ℕ) : Type 0 where
     pub pieces : (pieces_of kind) t (rest_of s p) ≡ record { name = n; text = u } ∷ pieces_of kind t (rest_of s (past p u))
+    pub real : number (named n) ≡ n
     pub long : 0 < length u
     pub line : past (past p u) (rest_of s (past p u)) ≡ past p (rest_of s p)
     pub inside : Inside s (past p u)
@@ -57,36 +58,57 @@ module _ {kind : ℕ → ℕ} (ok : Reads kind) (s : List ℕ) (p : Point) (h : 
   same_line : (u : List ℕ) → rest_of s p ≡ u ++ rest_of s (past p u) → past (past p u) (rest_of s (past p u)) ≡ past p (rest_of s p)
   same_line u e = past-append p u (rest_of s (past p u)) ∙ ap (past p) (sym e)
 
-  text : {n : ℕ} {u : List ℕ} → M.First kind s p n u → Next kind s Body p
-  text {n} {u} f = some (record { pieces = f.pieces; long = f.some; line = same_line u f.line; inside = f.inside })
+  text : {n : ℕ} {u : List ℕ} → number (named n) ≡ n → M.First kind s p n u → Next kind s Body p
+  text {n} {u} r f = some (record { pieces = f.pieces; real = r; long = f.some; line = same_line u f.line; inside = f.inside })
 
-  mark : {n : ℕ} {u : List ℕ} → F.First kind s p n u → Next kind s Delimiter p
-  mark {n} {u} f = some (record { pieces = f.pieces; long = f.some; line = same_line u f.line; inside = f.inside })
+  mark : {n : ℕ} {u : List ℕ} → number (named n) ≡ n → F.First kind s p n u → Next kind s Delimiter p
+  mark {n} {u} r f = some (record { pieces = f.pieces; real = r; long = f.some; line = same_line u f.line; inside = f.inside })
+
+  -- at whitespace, and at a divider, the first piece is the same in every row
+  pub first-space : (t : Part) → here ≡ 1 → pieces_of kind t (rest_of s p) ≡ record { name = 1; text = indent kind (rest_of s p) } ∷ pieces_of kind t (rest_of s (past p (indent kind (rest_of s p))))
+  first-space t e = go t
+    where
+      f : Front kind s p.index here
+      f = goes ok s p.index here refl (λ z. omega (arith, z, e))
+      go : (t : Part) → pieces_of kind t (rest_of s p) ≡ record { name = 1; text = indent kind (rest_of s p) } ∷ pieces_of kind t (rest_of s (past p (indent kind (rest_of s p))))
+      go Head = (M.first_space ok s p here f h e).pieces
+      go Delimiter = (F.first_space ok s p here f h e).pieces
+      go Body = (M.first_space ok s p here f h e).pieces
+
+  pub first-divider : (t : Part) → here ≡ 3 → pieces_of kind t (rest_of s p) ≡ record { name = 10; text = get_or s p.index 0 ∷ [] } ∷ pieces_of kind t (rest_of s (past p (get_or s p.index 0 ∷ [])))
+  first-divider t e = go t
+    where
+      f : Front kind s p.index here
+      f = goes ok s p.index here refl (λ z. omega (arith, z, e))
+      go : (t : Part) → pieces_of kind t (rest_of s p) ≡ record { name = 10; text = get_or s p.index 0 ∷ [] } ∷ pieces_of kind t (rest_of s (past p (get_or s p.index 0 ∷ [])))
+      go Head = (M.first_divider ok s p here f h e).pieces
+      go Delimiter = (F.first_divider ok s p here f h e).pieces
+      go Body = (M.first_divider ok s p here f h e).pieces
 
   next-text : Next kind s Body p
   next-text = go (eqb here 2) (eqb here 1) (eqb here 3) refl refl refl
     where
       go : (a b c : Bool) → eqb here 2 ≡ a → eqb here 1 ≡ b → eqb here 3 ≡ c → Next kind s Body p
       go true b c e f g = none (ends ok (drop p.index s) (eqb-true here 2 e))
-      go false true c e f g = text (M.first_space ok s p here (goes ok s p.index here refl (eqb-false here 2 e)) h (eqb-true here 1 f))
-      go false false true e f g = text (M.first_divider ok s p here (goes ok s p.index here refl (eqb-false here 2 e)) h (eqb-true here 3 g))
+      go false true c e f g = text {n = 1} refl (M.first_space ok s p here (goes ok s p.index here refl (eqb-false here 2 e)) h (eqb-true here 1 f))
+      go false false true e f g = text {n = 10} refl (M.first_divider ok s p here (goes ok s p.index here refl (eqb-false here 2 e)) h (eqb-true here 3 g))
       go false false false e f g =
-          text (M.first_data ok s p h (M.data_ahead ok s p here (goes ok s p.index here refl (eqb-false here 2 e)) h (eqb-false here 1 f) (eqb-false here 3 g)))
+          text {n = 3} refl (M.first_data ok s p h (M.data_ahead ok s p here (goes ok s p.index here refl (eqb-false here 2 e)) h (eqb-false here 1 f) (eqb-false here 3 g)))
 
   next-mark : Next kind s Delimiter p
   next-mark = go (eqb here 2) (eqb here 1) (eqb here 3) (eqb here 6) refl refl refl refl
     where
       go : (a b c d : Bool) → eqb here 2 ≡ a → eqb here 1 ≡ b → eqb here 3 ≡ c → eqb here 6 ≡ d → Next kind s Delimiter p
       go true b c d e f g i = none (ends ok (drop p.index s) (eqb-true here 2 e))
-      go false true c d e f g i = mark (F.first_space ok s p here (goes ok s p.index here refl (eqb-false here 2 e)) h (eqb-true here 1 f))
-      go false false true d e f g i = mark (F.first_divider ok s p here (goes ok s p.index here refl (eqb-false here 2 e)) h (eqb-true here 3 g))
-      go false false false true e f g i = mark (F.first_marker ok s p here (goes ok s p.index here refl (eqb-false here 2 e)) h (eqb-true here 6 i))
+      go false true c d e f g i = mark {n = 1} refl (F.first_space ok s p here (goes ok s p.index here refl (eqb-false here 2 e)) h (eqb-true here 1 f))
+      go false false true d e f g i = mark {n = 10} refl (F.first_divider ok s p here (goes ok s p.index here refl (eqb-false here 2 e)) h (eqb-true here 3 g))
+      go false false false true e f g i = mark {n = 12} refl (F.first_marker ok s p here (goes ok s p.index here refl (eqb-false here 2 e)) h (eqb-true here 6 i))
       go false false false false e f g i =
-          mark (F.first_filler ok s p here (goes ok s p.index here refl (eqb-false here 2 e)) h (eqb-false here 1 f) (eqb-false here 2 e) (eqb-false here 3 g) (eqb-false here 6 i))
+          mark {n = 15} refl (F.first_filler ok s p here (goes ok s p.index here refl (eqb-false here 2 e)) h (eqb-false here 1 f) (eqb-false here 2 e) (eqb-false here 3 g) (eqb-false here 6 i))
 
   head-text : Next kind s Body p → Next kind s Head p
   head-text (none e) = none e
-  head-text (some f) = some (record { pieces = f.pieces; long = f.long; line = f.line; inside = f.inside })
+  head-text (some f) = some (record { pieces = f.pieces; real = f.real; long = f.long; line = f.line; inside = f.inside })
 
   pub next-piece : (t : Part) → Next kind s t p
   next-piece Head = head-text next-text
@@ -127,7 +149,7 @@ module _ {kind : ℕ → ℕ} (ok : Reads kind) where
     coming (Begin p) = enter GfmTableHead p ∷ row_from kind s Head p ++ follow Head (past p (rest_of s p))
     coming (Enter t p) = row_from kind s t p ++ follow t (past p (rest_of s p))
     coming (Between t p) = row_left kind s t p ++ follow t (past p (rest_of s p))
-    coming (Entered t n p) = leave n p ∷ row_left kind s t p ++ follow t (past p (rest_of s p))
+    coming (Entered t n p) = leave (number n) p ∷ row_left kind s t p ++ follow t (past p (rest_of s p))
     coming (Ended t e) = follow t e
     coming (Broken t p) = leave LineEnding p ∷ row_from kind s t p ++ follow t (past p (rest_of s p))
 
@@ -163,7 +185,8 @@ module _ {kind : ℕ → ℕ} (ok : Reads kind) where
           rw f.pieces
           (gives
           (ap (λ (xs : List Piece). (all_both (passed p xs) ++ leave (name_of t) (past p (rest_of s p)) ∷ []) ++ follow t (past p (rest_of s p))) f.pieces
-          ∙ ap (λ (e : Point). enter n p ∷ leave n q ∷ (all_both (passed q (pieces_of kind t (rest_of s q))) ++ leave (name_of t) e ∷ []) ++ follow t e) (sym f.line))
+          ∙ ap (λ (e : Point). enter n p ∷ leave n q ∷ (all_both (passed q (pieces_of kind t (rest_of s q))) ++ leave (name_of t) e ∷ []) ++ follow t e) (sym f.line)
+          ∙ ap (λ (m : ℕ). enter m p ∷ leave m q ∷ (all_both (passed q (pieces_of kind t (rest_of s q))) ++ leave (name_of t) (past q (rest_of s q)) ∷ []) ++ follow t (past q (rest_of s q))) (sym f.real))
           (λ z. omega (arith, z)) f.inside)
 
       between : Steps (Between t p) (step_of kind s (Between t p))

@@ -9,6 +9,7 @@ use native.Mathlib.Omega.{arith}
 use borrow.Author.Tests.{eqb-true}
 use lib.Dec.{eqb}
 use lib.ListN.{length}
+use Rattle.tokenizer.specs.declared.event.Name.{Name}
 use Rattle.tokenizer.specs.Bytes.{Reads}
 use Rattle.tokenizer.specs.Points.{column_after, column_past}
 use Rattle.tokenizer.specs.Moves.{Inside}
@@ -52,7 +53,7 @@ module _ {kind : ℕ → ℕ} (ok : Reads kind) where
       go false e h = sym (add-zero c)
 
 -- a piece whose bytes are a column each
-pub flat-placed : (r : Placed) (n i e c : ℕ) (t : List ℕ) → (r.name ≡ n) × (r.end ≡ e) × (r.column + i ≡ c + e) → e ≡ i + length t → column_past c t ≡ c + length t → r ≡ placed n i c t
+pub flat-placed : (r : Placed) (n : Name) (i e c : ℕ) (t : List ℕ) → (r.name ≡ n) × (r.end ≡ e) × (r.column + i ≡ c + e) → e ≡ i + length t → column_past c t ≡ c + length t → r ≡ placed n i c t
 flat-placed r n i e c t h d f =
     let x : r.end ≡ i + length t = h.1 ∙ d in
     let y : r.column ≡ column_past c t = omega (arith, h.2, d, f) in

@@ -1,5 +1,5 @@
 -- The pieces of a row by the places of its bytes, and their events written to slots.
-use Rattle.std.specs.Prelude.{ℕ, ◌+◌, ◌*◌, List, [], ◌∷◌, length, Option, Some, None}
+use Rattle.std.specs.Prelude.{ℕ, ◌≡◌, ◌+◌, ◌*◌, List, [], ◌∷◌, length, Option, Some, None}
 use Rattle.tokenizer.specs.declared.event.Point.{Point}
 use Rattle.tokenizer.specs.declared.event.Event.{Event}
 use Rattle.tokenizer.specs.declared.event.Name.{Name}
@@ -16,6 +16,10 @@ use Rattle.gfm_table.specs.Stream.{pieces_of}
 -- the point of the place i in the column c of a line
 abbrev pub point_in : ℕ → ℕ → ℕ → Point
 point_in l i c = record { line = l; column = c; index = i; vs = 0 }
+
+-- the kind of a byte that is no whitespace, no line end and no divider
+abbrev pub Solid : ℕ → Type 0
+Solid k = (k ≡ 1 → ⊥) × (k ≡ 2 → ⊥) × (k ≡ 3 → ⊥)
 
 -- the piece of the name n and the bytes t, from the place i and the column c on
 abbrev pub placed : Name → ℕ → ℕ → List ℕ → Placed

@@ -1,5 +1,5 @@
 -- The raw events of a head or a row, one at a time.
-use Rattle.std.specs.Prelude.{ℕ, zero, suc, ◌≤◌, List, [], ◌∷◌, Bool, true, false, cond, eqb, drop, Option, Some, None}
+use Rattle.std.specs.Prelude.{ℕ, zero, suc, ◌≤◌, List, [], ◌∷◌, false, cond, eqb, drop, Option, Some, None}
 use Rattle.tokenizer.specs.declared.event.Point.{Point}
 use Rattle.tokenizer.specs.declared.event.Event.{Event}
 use Rattle.tokenizer.specs.Points.{past, next_line}
@@ -19,11 +19,6 @@ abbrev pub name_of : Part → ℕ
 name_of Head = GfmTableRow
 name_of Delimiter = GfmTableDelimiterRow
 name_of Body = GfmTableRow
-
--- a delimiter row, or a body row
-abbrev pub part_of : Bool → Part
-part_of true = Delimiter
-part_of false = Body
 
 -- the pieces of a row
 abbrev pub pieces_of : (ℕ → ℕ) → Part → List ℕ → List Piece

@@ -1,14 +1,17 @@
 // The pieces of a row by the places of its bytes, one at a time, and their events written to lent slots.
-ghost use Rattle.std.specs.Prelude.{◌≡◌, ◌≤◌, ◌<◌, ◌+◌, ◌*◌, length, drop};
+ghost use Rattle.std.specs.Prelude.{◌≡◌, Some, ◌≤◌, ◌<◌, ◌+◌, ◌*◌, length, drop};
 ghost use Rattle.tokenizer.specs.Bytes.{kind_in};
 ghost use Rattle.tokenizer.specs.Points.{column_past, start_of};
 ghost use Rattle.tokenizer.specs.Events.{number, enter, leave};
 ghost use Rattle.tokenizer.specs.Lines.{line_body, indent};
-ghost use Rattle.tokenizer.specs.Moves.{Inside};
-ghost use Rattle.gfm_table.specs.Stream.{part_of, pieces_of};
-ghost use Rattle.gfm_table.specs.Places.{point_in, next_at, row_end, row_wrote};
+ghost use Rattle.tokenizer.specs.Moves.{ahead_of, Inside};
+ghost use Rattle.gfm_table.specs.declared.stream.Part.{Part};
+ghost use Rattle.gfm_table.specs.declared.stream.Part.TheVariants.{Delimiter, Body};
+ghost use Rattle.gfm_table.specs.Stream.{pieces_of};
+ghost use Rattle.gfm_table.specs.Places.{point_in, Solid, next_at, row_end, row_wrote};
 
 use crate::pieces::{fillers_end, text_end};
+use crate::stream::Part;
 use tokenizer::event::{Event, LineStart, Name, Point, column_after};
 use tokenizer::kinds::Kind;
 use tokenizer::slots::put;
@@ -42,19 +45,19 @@ pub fn spaces_past(text: &Text, at: u32, column: u32) -> Stop
     requires { (length text.now.bytes.now ≤ 65536) × (at ≤ length text.now.bytes.now) × (column ≤ 4 * at + 1) }
     ensures { (result.at ≡ at + length (indent (kind_in text.now.kinds.now) (line_body (drop at text.now.bytes.now)))) × (result.column ≡ column_past column (indent (kind_in text.now.kinds.now) (line_body (drop at text.now.bytes.now)))) }
 {
-    let mut column = column;
+    let mut c = column;
     for i in at as usize..text.bytes.len() {
         if text.kind_at(i) != Kind::Space {
             return Stop {
                 at: i as u32,
-                column,
+                column: c,
             };
         }
-        column = column_after(column, text.bytes[i]);
+        c = column_after(c, text.bytes[i]);
     }
     Stop {
         at: text.bytes.len() as u32,
-        column,
+        column: c,
     }
 }
 
@@ -103,13 +106,65 @@ impl Placed {
     }
 }
 
-// The next piece of a row, a delimiter row or another, if one is left.
-pub fn next_piece<const DELIMITER: bool>(text: &Text, at: u32, column: u32) -> Option<Placed>
+// A kind of row: what it is, and the pieces that are no whitespace and no divider.
+pub trait RowKind {
+    ghost part: { Part };
+
+    // Which line of a table it is.
+    fn part() -> Part
+        ensures { result ≡ part };
+
+    // The piece at a byte that is no whitespace, no line end and no divider.
+    fn solid_piece(text: &Text, at: u32, column: u32) -> Placed
+        requires { (length text.now.bytes.now ≤ 65536) × (at ≤ length text.now.bytes.now) × (column ≤ 4 * at + 1) × Solid (ahead_of (kind_in text.now.kinds.now) (drop at text.now.bytes.now)) }
+        ensures { Some result ≡ next_at at column (pieces_of (kind_in text.now.kinds.now) part (line_body (drop at text.now.bytes.now))) };
+}
+
+// A head line or a body row: data.
+pub struct TextRow;
+
+impl RowKind for TextRow {
+    ghost part = { Body };
+
+    fn part() -> Part {
+        Part::Body
+    }
+
+    fn solid_piece(text: &Text, at: u32, column: u32) -> Placed {
+        Placed::flat(Name::Data, at, text_end(text, at as usize), column)
+    }
+}
+
+// A delimiter row: markers and fillers.
+pub struct DelimiterRow;
+
+impl RowKind for DelimiterRow {
+    ghost part = { Delimiter };
+
+    fn part() -> Part {
+        Part::Delimiter
+    }
+
+    fn solid_piece(text: &Text, at: u32, column: u32) -> Placed {
+        let i = at as usize;
+        if text.kind_at(i) == Kind::Colon {
+            return Placed::flat(Name::GfmTableDelimiterMarker, at, i + 1, column);
+        }
+        Placed::flat(
+            Name::GfmTableDelimiterFiller,
+            at,
+            fillers_end(text, i),
+            column,
+        )
+    }
+}
+
+// The next piece of a row, if one is left.
+pub fn next_piece<R: RowKind>(text: &Text, at: u32, column: u32) -> Option<Placed>
     requires { (length text.now.bytes.now ≤ 65536) × (at ≤ length text.now.bytes.now) × (column ≤ 4 * at + 1) }
-    ensures { result ≡ next_at at column (pieces_of (kind_in text.now.kinds.now) (part_of DELIMITER) (line_body (drop at text.now.bytes.now))) }
+    ensures { result ≡ next_at at column (pieces_of (kind_in text.now.kinds.now) R.part (line_body (drop at text.now.bytes.now))) }
 {
-    let i = at as usize;
-    match text.kind_at(i) {
+    match text.kind_at(at as usize) {
         Kind::Space => {
             let stop = spaces_past(text, at, column);
             Some(Placed {
@@ -119,20 +174,8 @@ pub fn next_piece<const DELIMITER: bool>(text: &Text, at: u32, column: u32) -> O
             })
         }
         Kind::End => None,
-        Kind::Pipe => Some(Placed::flat(Name::GfmTableCellDivider, at, i + 1, column)),
-        Kind::Colon if DELIMITER => Some(Placed::flat(
-            Name::GfmTableDelimiterMarker,
-            at,
-            i + 1,
-            column,
-        )),
-        _ if DELIMITER => Some(Placed::flat(
-            Name::GfmTableDelimiterFiller,
-            at,
-            fillers_end(text, i),
-            column,
-        )),
-        _ => Some(Placed::flat(Name::Data, at, text_end(text, i), column)),
+        Kind::Pipe => Some(Placed::flat(Name::GfmTableCellDivider, at, at as usize + 1, column)),
+        _ => Some(R::solid_piece(text, at, column)),
     }
 }
 
@@ -162,17 +205,17 @@ impl Reached {
 }
 
 // The events of the pieces of a row, from its first byte, into the slots from a place on.
-pub fn write_row<const DELIMITER: bool>(
+pub fn write_row<R: RowKind>(
     text: &Text,
     from: LineStart,
     slots: &mut [Event],
     to: usize,
 ) -> Reached
     requires { Inside text.now.bytes.now (start_of from) × (to ≤ 4294967296) }
-    ensures { (result ≡ row_end (kind_in text.now.kinds.now) text.now.bytes.now (part_of DELIMITER) (start_of from) to) × (slots.new ≡ row_wrote (kind_in text.now.kinds.now) text.now.bytes.now (part_of DELIMITER) (start_of from) to slots.old) }
+    ensures { (result ≡ row_end (kind_in text.now.kinds.now) text.now.bytes.now R.part (start_of from) to) × (slots.new ≡ row_wrote (kind_in text.now.kinds.now) text.now.bytes.now R.part (start_of from) to slots.old) }
 {
     let mut x = Reached::first(from, to);
-    while let Some(piece) = next_piece::<DELIMITER>(text, x.at, x.column) {
+    while let Some(piece) = next_piece::<R>(text, x.at, x.column) {
         put(slots, x.slot, piece.entry(from.line, x));
         put(slots, x.slot + 1, piece.exit(from.line));
         x = x.behind(piece);

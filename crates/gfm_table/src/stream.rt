@@ -6,7 +6,7 @@ ghost use Rattle.tokenizer.specs.Events.{number};
 ghost use Rattle.gfm_table.specs.Stream.{name_of, piece_at, between_of, over_at, ended_of, step_of, gave, Good};
 ghost use Rattle.gfm_table.specs.declared.stream.Part.TheVariants.{Head};
 
-use crate::rows::next_piece;
+use crate::rows::{DelimiterRow, TextRow, next_piece};
 use tokenizer::event::{Event, Name, Point};
 use tokenizer::lines::end_at;
 use tokenizer::text::Text;
@@ -62,8 +62,8 @@ pub fn piece_at(text: &Text, part: Part, p: Point) -> Option<Pieced>
     ensures { result ≡ piece_at (kind_in text.now.kinds.now) text.now.bytes.now part p }
 {
     let piece = match part {
-        Part::Delimiter => next_piece::<true>(text, p.index, p.column)?,
-        Part::Head | Part::Body => next_piece::<false>(text, p.index, p.column)?,
+        Part::Delimiter => next_piece::<DelimiterRow>(text, p.index, p.column)?,
+        Part::Head | Part::Body => next_piece::<TextRow>(text, p.index, p.column)?,
     };
     Some(Pieced {
         name: piece.name,

@@ -1,32 +1,23 @@
--- `pieces::fillers_end` meets its contract: after each byte the run ends where it ended before. The measure is the bytes left.
--- Assumes nothing.
-use Prim.Native.Nat.{◌<◌}
-use mathlib.Core.Path.{ap, sym, ◌∙◌}
-use mathlib.Core.Logic.{◌⊎◌, inl, inr, ⊎_elim}
-use native.Mathlib.Omega.{arith}
-use borrow.Author.Rules.{rules}
-use lib.ListN.{length, drop}
-use Rattle.tokenizer.proofs.Ahead.{goes}
-use Rattle.gfm_table.proofs.Fillers.{fillers_stop}
-use Rattle.gfm_table.proofs.Marks.{fillers_more}
+use Rattle.std.proofs.Common.{rules, ◌≡◌, false, ◌≤◌, ◌+◌, length, drop, ℕ, ◌-◌, ◌*◌, ◌<◌, ◌/◌, ◌%◌, Bool, true, nat_eq, nat_lt, List, [], ◌∷◌, ◌++◌, slice_index_or, slice_set, bit_and, bit_or, Fits, w8, w32, w64, Bor, MutBor}
+use Rattle.tokenizer.specs.Bytes.{kind_in}
+use Rattle.tokenizer.specs.Lines.{line_body}
+use Rattle.gfm_table.specs.Rows.{delimiter_pieces}
+use Rattle.gfm_table.specs.Machine.{data_run, HeadRead}
+use Rattle.gfm_table.specs.Delimiters.{filler_run}
 use Rattle.gfm_table.proofs.pieces.fillers_end.Goals as goal
-use Rattle.gfm_table.proofs.pieces.fillers_end.Goals.{in_default-via-then-this-lt1, in_default-via-else-this-lt1+else-this-lt4}
 
+-- src/pieces.rt:77:5
+pub loop-i-init : goal.loop-i-init
+loop-i-init c = ?
+
+-- src/pieces.rt:80:17
+pub returns-in-Space : goal.returns-in-Space
+returns-in-Space c = ?
+
+-- src/pieces.rt:77:5
 pub loop-i-preserved : goal.loop-i-preserved
-loop-i-preserved c =
-    let l = c.loop-i in
-    let far : (c.kind_at.result < 1) ⊎ (3 < c.kind_at.result) = elim c.in_default.branch [ in_default-via-then-this-lt1 w ↦ inl (omega arith) | in_default-via-else-this-lt1+else-this-lt4 w ↦ inr (omega arith) ] in
-    let f = goes c.requires.reads _ _ _ c.kind_at.ensures (λ z. ⊎_elim (λ w. omega arith) (λ w. omega arith) far) in
-    omega (arith, fillers_more c.requires.reads _ l.i _ f far (search rules), l.invariant)
+loop-i-preserved c = ?
 
-pub returns-in-1 : goal.returns-in-1
-returns-in-1 c =
-    let l = c.loop-i in
-    let s = c.args.s.now in
-    omega (arith, ap length (fillers_stop c.requires.reads (drop l.i s) (inl (sym c.kind_at.ensures ∙ c.in-1.is))), l.invariant)
-
-pub returns-in-1-2 : goal.returns-in-1-2
-returns-in-1-2 c =
-    let l = c.loop-i in
-    let s = c.args.s.now in
-    omega (arith, ap length (fillers_stop c.requires.reads (drop l.i s) (inr (omega arith, omega arith))), l.invariant)
+-- src/pieces.rt:74:1
+pub returns : goal.returns
+returns c = ?

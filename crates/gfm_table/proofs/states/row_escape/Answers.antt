@@ -1,24 +1,15 @@
--- `states::row_escape` meets its contract.
--- Assumes nothing.
-use mathlib.Core.Path.{ap}
-use native.Mathlib.Omega.{arith}
-use lib.ListN.{length, drop}
-use Rattle.tokenizer.proofs.Ahead.{goes}
-use Rattle.gfm_table.proofs.Stops.{escape_stops}
-use Rattle.gfm_table.proofs.Passing.{escape_one}
+use Rattle.std.proofs.Common.{rules, ◌≡◌, false, ◌<◌, ◌≤◌, ◌+◌, length, drop, ℕ, ◌-◌, ◌*◌, ◌/◌, ◌%◌, Bool, true, nat_eq, nat_lt, List, [], ◌∷◌, ◌++◌, slice_index_or, slice_set, bit_and, bit_or, Fits, w8, w32, w64, Bor, MutBor}
+use Rattle.tokenizer.specs.Bytes.{kind_in}
+use Rattle.tokenizer.specs.Points.{past}
+use Rattle.tokenizer.specs.Lines.{line_body}
+use Rattle.tokenizer.specs.Moves.{rest_of, Inside}
+use Rattle.gfm_table.specs.Machine.{Counted, AtData, data_run, escaped, counted_as, passed_to, stepped, data_piece, ReadHere, whole, start_at, RowRead}
 use Rattle.gfm_table.proofs.states.row_escape.Goals as goal
 
-pub returns-in-3 : goal.returns-in-3
-returns-in-3 c =
-    let a = c.args in
-    omega (arith, escape_one c.requires.reads a.s.now a.at _ (goes c.requires.reads _ _ _ c.kind_at.ensures (λ z. omega arith)) (omega arith) (omega arith))
+-- src/states.rt:35:1
+pub returns-in-Pipe : goal.returns-in-Pipe
+returns-in-Pipe c = ?
 
+-- src/states.rt:35:1
 pub returns-in_default : goal.returns-in_default
-returns-in_default c =
-    let a = c.args in
-    omega (arith, ap length (escape_stops c.requires.reads (drop a.at a.s.now) (λ z. omega arith) (λ z. omega arith)))
-
-pub returns-in_default-2 : goal.returns-in_default-2
-returns-in_default-2 c =
-    let a = c.args in
-    omega (arith, ap length (escape_stops c.requires.reads (drop a.at a.s.now) (λ z. omega arith) (λ z. omega arith)))
+returns-in_default c = ?
