@@ -1,32 +1,34 @@
--- `pieces::fillers_end` meets its contract: after each byte the run ends where it ended before. The measure is the bytes left.
+-- `pieces::fillers_end` meets its contract: after each byte the run ends where it ended before.
 -- Assumes nothing.
-use Prim.Native.Nat.{◌<◌}
-use mathlib.Core.Path.{ap, sym, ◌∙◌}
-use mathlib.Core.Logic.{◌⊎◌, inl, inr, ⊎_elim}
+use mathlib.Core.Path.{ap}
 use native.Mathlib.Omega.{arith}
-use borrow.Author.Rules.{rules}
 use lib.ListN.{length, drop}
-use Rattle.tokenizer.proofs.Ahead.{goes}
+use Rattle.tokenizer.specs.declared.kinds.Kind.TheVariants.{Colon}
+use Rattle.tokenizer.specs.Bytes.{kind_in}
+use Rattle.tokenizer.proofs.Ahead.{past_last}
+use Rattle.gfm_table.specs.Delimiters.{filler_run}
+use Rattle.gfm_table.proofs.KindsAhead.{front, apart_kinds, stop_kind, far_kind}
 use Rattle.gfm_table.proofs.Fillers.{fillers_stop}
 use Rattle.gfm_table.proofs.Marks.{fillers_more}
 use Rattle.gfm_table.proofs.pieces.fillers_end.Goals as goal
-use Rattle.gfm_table.proofs.pieces.fillers_end.Goals.{in_default-via-then-this-lt1, in_default-via-else-this-lt1+else-this-lt4}
+
+pub returns-in-Space : goal.returns-in-Space
+returns-in-Space c =
+    let t = c.args.text.now in
+    let e = ap length (fillers_stop t.passes.reads (drop c.loop-i.i t.bytes.now) (rw (← c.kind_at.ensures) (stop_kind c.kind_at.result c.in-Space.is))) in
+    omega (arith, e, c.loop-i.invariant.1)
 
 pub loop-i-preserved : goal.loop-i-preserved
 loop-i-preserved c =
-    let l = c.loop-i in
-    let far : (c.kind_at.result < 1) ⊎ (3 < c.kind_at.result) = elim c.in_default.branch [ in_default-via-then-this-lt1 w ↦ inl (omega arith) | in_default-via-else-this-lt1+else-this-lt4 w ↦ inr (omega arith) ] in
-    let f = goes c.requires.reads _ _ _ c.kind_at.ensures (λ z. ⊎_elim (λ w. omega arith) (λ w. omega arith) far) in
-    omega (arith, fillers_more c.requires.reads _ l.i _ f far (search rules), l.invariant)
+    let t = c.args.text.now in
+    let o = c.in_default in
+    let f = front t.passes.reads t.bytes.now c.loop-i.i c.kind_at.result c.kind_at.ensures o.not-End in
+    let e = fillers_more t.passes.reads t.bytes.now c.loop-i.i _ f (far_kind c.kind_at.result o.not-Space o.not-End o.not-Pipe) (apart_kinds c.kind_at.result Colon o.not-Colon) in
+    (omega arith, omega (arith, e, c.loop-i.invariant.1))
 
-pub returns-in-1 : goal.returns-in-1
-returns-in-1 c =
-    let l = c.loop-i in
-    let s = c.args.s.now in
-    omega (arith, ap length (fillers_stop c.requires.reads (drop l.i s) (inl (sym c.kind_at.ensures ∙ c.in-1.is))), l.invariant)
-
-pub returns-in-1-2 : goal.returns-in-1-2
-returns-in-1-2 c =
-    let l = c.loop-i in
-    let s = c.args.s.now in
-    omega (arith, ap length (fillers_stop c.requires.reads (drop l.i s) (inr (omega arith, omega arith))), l.invariant)
+pub returns : goal.returns
+unfolding filler_run
+returns c =
+    let t = c.args.text.now in
+    let e = ap length (ap (filler_run (kind_in t.kinds.now)) (past_last t.bytes.now c.loop-i.i c.loop-i-test.false)) in
+    omega (arith, e, c.loop-i.invariant.1, c.max.ensures)

@@ -9,7 +9,9 @@ use Rattle.gfm_table.proofs.Passing.{line_from}
 use Rattle.gfm_table.proofs.pieces.text_end.Given as goal
 
 abbrev pub invariant-loop-i : goal.invariant-loop-i
-invariant-loop-i l = l.i + length (data_run (kind_in l.kinds) false (line_from l.s l.i)) ≡ l.initial.i + length (data_run (kind_in l.kinds) false (line_from l.s l.initial.i))
+invariant-loop-i l =
+    let run = λ (i : _). length (data_run (kind_in l.text.kinds.now) false (line_from l.text.bytes.now i)) in
+    l.i + run l.i ≡ l.initial.i + run l.initial.i
 
 abbrev pub decreases-loop-i : goal.decreases-loop-i
-decreases-loop-i l = length l.s - l.i
+decreases-loop-i l = length l.text.bytes.now - l.i

@@ -1,24 +1,27 @@
 -- `states::row_escape` meets its contract.
 -- Assumes nothing.
 use mathlib.Core.Path.{ap}
+use mathlib.Core.Logic.{⊎_elim}
 use native.Mathlib.Omega.{arith}
+use borrow.Author.Rules.{rules}
 use lib.ListN.{length, drop}
-use Rattle.tokenizer.proofs.Ahead.{goes}
+use Rattle.tokenizer.specs.declared.kinds.Kind.TheVariants.{Pipe, Backslash}
+use Rattle.gfm_table.proofs.KindsAhead.{front_at, ahead_not}
 use Rattle.gfm_table.proofs.Stops.{escape_stops}
 use Rattle.gfm_table.proofs.Passing.{escape_one}
 use Rattle.gfm_table.proofs.states.row_escape.Goals as goal
 
-pub returns-in-3 : goal.returns-in-3
-returns-in-3 c =
-    let a = c.args in
-    omega (arith, escape_one c.requires.reads a.s.now a.at _ (goes c.requires.reads _ _ _ c.kind_at.ensures (λ z. omega arith)) (omega arith) (omega arith))
+pub returns-in-Pipe : goal.returns-in-Pipe
+returns-in-Pipe c =
+    let t = c.args.text.now in
+    let here = front_at t.passes.reads t.bytes.now c.args.at c.kind_at.result c.kind_at.ensures in
+    ⊎_elim
+      (λ e. omega (arith, escape_one t.passes.reads _ _ 3 (here Pipe e (λ z. omega arith)) (omega arith) (omega arith)))
+      (λ e. omega (arith, escape_one t.passes.reads _ _ 4 (here Backslash e (λ z. omega arith)) (omega arith) (omega arith)))
+      c.in-Pipe.is
 
 pub returns-in_default : goal.returns-in_default
 returns-in_default c =
-    let a = c.args in
-    omega (arith, ap length (escape_stops c.requires.reads (drop a.at a.s.now) (λ z. omega arith) (λ z. omega arith)))
-
-pub returns-in_default-2 : goal.returns-in_default-2
-returns-in_default-2 c =
-    let a = c.args in
-    omega (arith, ap length (escape_stops c.requires.reads (drop a.at a.s.now) (λ z. omega arith) (λ z. omega arith)))
+    let t = c.args.text.now in
+    let other = ahead_not t.passes.reads t.bytes.now c.args.at c.kind_at.result c.kind_at.ensures in
+    omega (arith, ap length (escape_stops t.passes.reads (drop c.args.at t.bytes.now) (other Pipe (search rules)) (other Backslash (search rules))))
