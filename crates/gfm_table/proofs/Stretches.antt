@@ -293,7 +293,9 @@ module _ {kind : ℕ → ℕ} (ok : Reads kind) where
 -- ## The whole row
 
 pub is-count : (c : Bool) (n m : ℕ) (x e : Point) → counted n e ≡ cond c (counted m x) None → (n ≡ m) × (e ≡ x) × (c ≡ true)
-is-count true n m x e h = (cc, cc, refl)
+is-count true n m x e h =
+    let v : ◌≡◌ {A = Values} (record { count = n; end = e }) (record { count = m; end = x }) = cc in
+    (ap (λ (u : Values). u.count) v, ap (λ (u : Values). u.end) v, refl)
 is-count false n m x e h = absurd (let z : ◌≡◌ {A = ℕ} 0 1 = cc in omega arith)
 
 pub is_none : (c : Bool) (v : ℕ) (x : Point) → None ≡ cond c (counted v x) None → c ≡ false

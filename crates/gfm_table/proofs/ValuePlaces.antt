@@ -17,7 +17,7 @@ use Rattle.tokenizer.specs.Moves.{ahead_of, run_of, after_run}
 use Rattle.tokenizer.proofs.Ahead.{Front, goes, ends, line_case, run_stops}
 use Rattle.tokenizer.proofs.Runs.{space_split, run_split, run_on}
 use Rattle.gfm_table.specs.Heads.{untailed, hyphens, is_value, untrailed, all_values, values, marked, permitted, is_delimiter_row}
-use Rattle.gfm_table.specs.Delimiters.{stretch, closes, colon, written, value_end, rest_count, row_count, value_count, delimiter_at}
+use Rattle.gfm_table.specs.Delimiters.{stretch, closes, colon, written, value_end, rest_count, row_count, value_count, delimiter_at, positive}
 use Rattle.gfm_table.specs.Machine.{pipe_first}
 use Rattle.gfm_table.proofs.Stops.{led_ahead}
 use Rattle.gfm_table.proofs.Delimiters.{View, view, space, pipe, hyphen, other, stretch_on, stretch-indent, stretch_space, stretch-hyphens, hyphens_on, hyphens_off, hyphens-none, written_on, ends_two, ends-front}
@@ -243,6 +243,14 @@ module _ {kind : ℕ → ℕ} (ok : Reads kind) where
       pub count_bad : is_value kind (written kind left) ≡ false → (ahead_of kind (drop x s) ≡ 2 → ⊥) → 0 ≡ rest_count kind n left
       count_bad v z = let f = goes ok s x (ahead_of kind (drop x s)) refl z in rw (cells_bad ok left _ _ (sym solid-rest ∙ f.line) v)
 
+      -- no value at all
+      pub count_zero : is_value kind (written kind left) ≡ false → n ≡ 0 → 0 ≡ rest_count kind n left
+      count_zero v z = go (eqb (ahead_of kind (drop x s)) 2) refl
+        where
+          go : (t : Bool) → eqb (ahead_of kind (drop x s)) 2 ≡ t → 0 ≡ rest_count kind n left
+          go true e = sym z ∙ count-empty (eqb-true (ahead_of kind (drop x s)) 2 e)
+          go false e = count_bad v (eqb-false (ahead_of kind (drop x s)) 2 e)
+
       -- the values of a line, behind a leading divider or not
       pub row-led : (Front kind) s x 3 → rest_count kind 0 (line_from s (x + 1)) ≡ row_count kind left
       row-led f = rw (values-led ok left _ _ (sym solid-rest ∙ f.line) f.is) (from-none (untrailed (cells kind (line_from s (x + 1)))))
@@ -312,3 +320,7 @@ module _ {kind : ℕ → ℕ} (ok : Reads kind) where
       go : (r : Bool) → eqb k 2 ≡ r → 0 ≡ value_count kind (line_from s i)
       go true j = count_unmarked (line_from s i) (unmarked ok (drop i s) (sym e ∙ eqb-true k 2 j))
       go false j = bad (goes ok s i k e (eqb-false k 2 j))
+
+-- a number above 0 is one
+pub some_number : (n : ℕ) → (n ≡ 0 → ⊥) → Some n ≡ positive n
+some_number n h = rw (ne_eqb n 0 h)
