@@ -8,6 +8,7 @@ use native.Mathlib.Omega.{arith}
 use borrow.Author.Tests.{eqb-true, lt-leb}
 use lib.Dec.{eqb, leb}
 use lib.ListN.{length}
+use Rattle.std.specs.Prelude.{None}
 use Rattle.tokenizer.specs.declared.event.Point.{Point}
 use Rattle.gfm_table.specs.declared.states.Scan.{Scan}
 use Rattle.tokenizer.specs.Bytes.{Reads}
@@ -174,6 +175,6 @@ module _ {kind : ℕ → ℕ} (ok : Reads kind) where
   pub start-counted : (s : List ℕ) (p : Point) → Inside s p → Counted s (start_at kind s p)
   start-counted s p h = go (pipe_first kind (unindented kind (rest_of s p)))
     where
-      go : (l : Bool) → Counted s (record { at = p; from = p; name = 0; count = 0; size = 0; size_b = cond l 0 1; seen = not l })
+      go : (l : Bool) → Counted s (record { at = p; from = p; name = None; count = 0; size = 0; size_b = cond l 0 1; seen = not l })
       go true = record { inside = h; few = omega arith; cells = omega arith; solids = omega arith }
       go false = record { inside = h; few = omega arith; cells = omega arith; solids = omega arith }

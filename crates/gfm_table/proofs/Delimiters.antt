@@ -15,7 +15,8 @@ use Rattle.gfm_table.specs.Heads.{untailed, hyphens}
 use Rattle.tokenizer.specs.Lines.{line_body}
 use Rattle.tokenizer.specs.Moves.{ahead_of, rest_of, over_at, run_of, after_run, Inside}
 use Rattle.gfm_table.specs.Delimiters.{stretch, closes, written, blank_at, closed_at, hyphens_at, cell_at}
-use Rattle.gfm_table.specs.declared.delimiter.Cell.TheVariants.{Empty, Value, Bad}
+use Rattle.std.specs.Prelude.{Some, None}
+use Rattle.gfm_table.specs.declared.delimiter.Cell.TheVariants.{Empty, Value}
 use Rattle.tokenizer.proofs.Ahead.{Front, goes, ends, run_end, end_none, end_over, rest_end, inside-end, end-end, line_case}
 use Rattle.tokenizer.proofs.Runs.{space_split, run_split}
 
@@ -212,10 +213,10 @@ module _ {kind : ℕ → ℕ} (ok : Reads kind) where
     blank-solid : is_empty (stretch kind (rest_of s solid_at)) ≡ blank kind (stretch kind (rest_of s p))
     blank-solid = ap (λ (l : List ℕ). is_empty (stretch kind l)) solid-rest ∙ ap is_empty (sym (stretch-indent kind (rest_of s p)))
 
-    pub blank_value : Inside s p → is_empty (stretch kind (rest_of s solid_at)) ≡ true → Value solid_at ≡ blank_at kind p (rest_of s p)
-    blank_value h e = rw (← blank-solid, e) (ap Value (solid-ends h e))
+    pub blank_value : Inside s p → is_empty (stretch kind (rest_of s solid_at)) ≡ true → Some (Value solid_at) ≡ blank_at kind p (rest_of s p)
+    blank_value h e = rw (← blank-solid, e) (ap (λ (q : Point). Some (Value q)) (solid-ends h e))
 
-    pub blank_bad : is_empty (stretch kind (rest_of s solid_at)) ≡ false → Bad ≡ blank_at kind p (rest_of s p)
+    pub blank_bad : is_empty (stretch kind (rest_of s solid_at)) ≡ false → None ≡ blank_at kind p (rest_of s p)
     blank_bad e = rw (← blank-solid, e)
 
     -- after the hyphens
@@ -253,13 +254,13 @@ module _ {kind : ℕ → ℕ} (ok : Reads kind) where
     hyphens_bad' [] h = refl
     hyphens_bad' (b ∷ v) h = line_case ok b v (λ l. hyphens kind (untailed kind (stretch kind l)) ≡ false) refl (λ z. hyphens-none kind b (line_body v) (ne_eqb (kind b) 5 h))
 
-    pub hyphens_bad : (ahead_of kind (drop p.index s) ≡ 5 → ⊥) → Bad ≡ hyphens_at kind p (rest_of s p)
+    pub hyphens_bad : (ahead_of kind (drop p.index s) ≡ 5 → ⊥) → None ≡ hyphens_at kind p (rest_of s p)
     hyphens_bad h = rw (hyphens_bad' (drop p.index s) h)
 
     -- the whole stretch
 
-    pub cell-empty : Inside s p → is_empty (stretch kind (rest_of s solid_at)) ≡ true → Empty solid_at ≡ cell_at kind p (rest_of s p)
-    cell-empty h e = rw (written_none kind (rest_of s p) (rw (← solid-rest) e)) (ap Empty (solid-ends h e))
+    pub cell-empty : Inside s p → is_empty (stretch kind (rest_of s solid_at)) ≡ true → Some (Empty solid_at) ≡ cell_at kind p (rest_of s p)
+    cell-empty h e = rw (written_none kind (rest_of s p) (rw (← solid-rest) e)) (ap (λ (q : Point). Some (Empty q)) (solid-ends h e))
 
     -- the stretch goes on with a byte of the kind k
     module _ (k : ℕ) (f : (Front kind) s solid_at.index k) (h : k ≡ 3 → ⊥) where

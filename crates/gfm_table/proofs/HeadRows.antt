@@ -6,6 +6,7 @@ use mathlib.Core.Bool.{Bool, true, false, cond, not}
 use mathlib.Core.List.{List, [], ◌∷◌}
 use native.Mathlib.Omega.{arith}
 use lib.Dec.{eqb, leb}
+use mir.Val.{bool_byte}
 use lib.ListN.{length, drop}
 use Rattle.tokenizer.specs.Bytes.{Reads}
 use Rattle.tokenizer.specs.Lines.{indent, unindented}
@@ -49,6 +50,11 @@ module _ {kind : ℕ → ℕ} (ok : Reads kind) (s : List ℕ) (i : ℕ) (h : le
 
   pub cells-few : (seen : Bool) → begun seen (solid_from kind s i) ≤ 65536
   cells-few seen = omega (arith, begun-few seen (solid_from kind s i), solids-few)
+
+-- the number of a yes or no
+pub bool-one : (t : Bool) → bool_byte t ≡ cond t 1 0
+bool-one true = refl
+bool-one false = refl
 
 -- one where something holds
 pub few-one : (t : Bool) (n : ℕ) → n ≡ cond t 1 0 → n ≤ 1

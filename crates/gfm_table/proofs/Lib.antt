@@ -1,4 +1,5 @@
 -- What the proofs of this crate and of those above it use.
+pub mod KindsAhead
 pub mod Runs
 pub mod Machine
 pub mod HeadCount

@@ -10,8 +10,9 @@ use borrow.Author.Tests.{eqb-true, eqb-false, ne_eqb, lt-ltb, le-ltb}
 use lib.Dec.{eqb, ltb}
 use lib.ListN.{length, drop}
 use Rattle.tokenizer.specs.declared.event.Point.{Point}
-use Rattle.gfm_table.specs.declared.delimiter.Cell.TheVariants.{Empty, Value, Bad}
-use Rattle.gfm_table.specs.declared.delimiter.Values.TheVariants.{Count, Bad as NoValues}
+use Rattle.std.specs.Prelude.{Option, Some, None}
+use Rattle.gfm_table.specs.declared.delimiter.Cell.TheVariants.{Empty, Value}
+use Rattle.gfm_table.specs.declared.delimiter.Values.{Values}
 use Rattle.tokenizer.specs.Bytes.{is_end, Reads}
 use Rattle.tokenizer.specs.Points.{past}
 use Rattle.tokenizer.specs.Lines.{is_empty, indent, unindented}
@@ -89,18 +90,22 @@ module _ {kind : ℕ → ℕ} (ok : Reads kind) where
 
 -- ## What a cell says of the stretches that are left
 
+-- n values that end at a point
+abbrev pub counted : ℕ → Point → Option Values
+counted n e = Some (record { count = n; end = e })
+
 module _ (x e : Point) where
-  is_value_lem : (a b : Bool) → Value e ≡ cond a (Empty x) (cond b (Value x) Bad) → (e ≡ x) × (a ≡ false) × (b ≡ true)
+  is_value_lem : (a b : Bool) → Some (Value e) ≡ cond a (Some (Empty x)) (cond b (Some (Value x)) None) → (e ≡ x) × (a ≡ false) × (b ≡ true)
   is_value_lem true b h = absurd (let z : ◌≡◌ {A = ℕ} 0 1 = cc in omega arith)
   is_value_lem false true h = (cc, refl, refl)
   is_value_lem false false h = absurd (let z : ◌≡◌ {A = ℕ} 0 1 = cc in omega arith)
 
-  is-empty : (a b : Bool) → Empty e ≡ cond a (Empty x) (cond b (Value x) Bad) → (e ≡ x) × (a ≡ true)
+  is-empty : (a b : Bool) → Some (Empty e) ≡ cond a (Some (Empty x)) (cond b (Some (Value x)) None) → (e ≡ x) × (a ≡ true)
   is-empty true b h = (cc, refl)
   is-empty false true h = absurd (let z : ◌≡◌ {A = ℕ} 0 1 = cc in omega arith)
   is-empty false false h = absurd (let z : ◌≡◌ {A = ℕ} 0 1 = cc in omega arith)
 
-is_bad : (x : Point) (a b : Bool) → Bad ≡ cond a (Empty x) (cond b (Value x) Bad) → (a ≡ false) × (b ≡ false)
+is_bad : (x : Point) (a b : Bool) → None ≡ cond a (Some (Empty x)) (cond b (Some (Value x)) None) → (a ≡ false) × (b ≡ false)
 is_bad x true b h = absurd (let z : ◌≡◌ {A = ℕ} 0 1 = cc in omega arith)
 is_bad x false true h = absurd (let z : ◌≡◌ {A = ℕ} 0 1 = cc in omega arith)
 is_bad x false false h = (refl, refl)
@@ -154,32 +159,32 @@ module _ {kind : ℕ → ℕ} (ok : Reads kind) where
     more-point f =
         end_over s stop 3 f (λ u. u) (λ u. u) (λ b u e. refl) ∙ end-end (stretch kind) (beyond ok) (stretch-split ok) s q (λ u. u) (λ u. u) (λ u. sym (stretch-split ok u))
 
-    pub rest_bad : Bad ≡ cell_at kind q line → NoValues ≡ rest_at kind m q line
+    pub rest_bad : None ≡ cell_at kind q line → None ≡ rest_at kind m q line
     rest_bad h =
         let i = is_bad stop (is_empty (written kind line)) (is_value kind (written kind line)) h in
         rw (cells-split ok line, all_bad (written kind line) (trimmed kind (others kind (beyond ok line))) i.0 i.1)
 
-    rest_empty_more : Empty stop ≡ cell_at kind q line → Front kind s stop.index 3 → NoValues ≡ rest_at kind m q line
+    rest_empty_more : Some (Empty stop) ≡ cell_at kind q line → Front kind s stop.index 3 → None ≡ rest_at kind m q line
     unfolding all_values
     rest_empty_more h f =
         let i = (is-empty stop stop (is_empty (written kind line)) (is_value kind (written kind line)) h).1 in
         rw (more-stretch f, untrailed-more ok (written kind line) (rest_of s (over_at s stop)), none (written kind line) i)
 
-    rest_empty_last : Empty stop ≡ cell_at kind q line → (ahead_of kind (drop stop.index s) ≡ 3 → ⊥) → Count m stop ≡ rest_at kind m q line
+    rest_empty_last : Some (Empty stop) ≡ cell_at kind q line → (ahead_of kind (drop stop.index s) ≡ 3 → ⊥) → counted m stop ≡ rest_at kind m q line
     unfolding all_values untrailed
     rest_empty_last h z =
         let i = (is-empty stop stop (is_empty (written kind line)) (is_value kind (written kind line)) h).1 in
         let l = last-stretch z in
         rw (cells-last ok line l, i, last-point l, add-zero)
 
-    rest_value_last : Value stop ≡ cell_at kind q line → (ahead_of kind (drop stop.index s) ≡ 3 → ⊥) → Count (m + 1) stop ≡ rest_at kind m q line
+    rest_value_last : Some (Value stop) ≡ cell_at kind q line → (ahead_of kind (drop stop.index s) ≡ 3 → ⊥) → counted (m + 1) stop ≡ rest_at kind m q line
     unfolding all_values untrailed
     rest_value_last h z =
         let i = is_value_lem stop stop (is_empty (written kind line)) (is_value kind (written kind line)) h in
         let l = last-stretch z in
         rw (cells-last ok line l, i.1, i.2, last-point l)
 
-    rest_value_more : Value stop ≡ cell_at kind q line → Front kind s stop.index 3 → rest_at kind (m + 1) (over_at s stop) (rest_of s (over_at s stop)) ≡ rest_at kind m q line
+    rest_value_more : Some (Value stop) ≡ cell_at kind q line → Front kind s stop.index 3 → rest_at kind (m + 1) (over_at s stop) (rest_of s (over_at s stop)) ≡ rest_at kind m q line
     unfolding all_values
     rest_value_more h f =
         let i = is_value_lem stop stop (is_empty (written kind line)) (is_value kind (written kind line)) h in
@@ -188,17 +193,17 @@ module _ {kind : ℕ → ℕ} (ok : Reads kind) where
         rw (more-stretch f, untrailed-more ok (written kind line) (rest_of s (over_at s stop)), i.2, more-point f, l)
 
     -- the same at the point that the cell gives
-    module _ (e : Point) (h : Empty e ≡ cell_at kind q line) where
+    module _ (e : Point) (h : Some (Empty e) ≡ cell_at kind q line) where
       empty-stop : e ≡ stop
       empty-stop = (is-empty stop e (is_empty (written kind line)) (is_value kind (written kind line)) h).0
 
-      pub empty-more : (Front kind) s e.index 3 → NoValues ≡ rest_at kind m q line
+      pub empty-more : (Front kind) s e.index 3 → None ≡ rest_at kind m q line
       empty-more f = rest_empty_more (rw empty-stop at h) (rw empty-stop at f)
 
-      pub empty-last : (ahead_of kind (drop e.index s) ≡ 3 → ⊥) → Count m e ≡ rest_at kind m q line
+      pub empty-last : (ahead_of kind (drop e.index s) ≡ 3 → ⊥) → counted m e ≡ rest_at kind m q line
       empty-last z = rw empty-stop (rest_empty_last (rw empty-stop at h) (rw empty-stop at z))
 
-    module _ (e : Point) (h : Value e ≡ cell_at kind q line) where
+    module _ (e : Point) (h : Some (Value e) ≡ cell_at kind q line) where
       value_stop : e ≡ stop
       value_stop = (is_value_lem stop e (is_empty (written kind line)) (is_value kind (written kind line)) h).0
 
@@ -211,7 +216,7 @@ module _ {kind : ℕ → ℕ} (ok : Reads kind) where
       pub value_more : (Front kind) s e.index 3 → rest_at kind (m + 1) (over_at s e) (rest_of s (over_at s e)) ≡ rest_at kind m q line
       value_more f = rw value_stop (rest_value_more (rw value_stop at h) (rw value_stop at f))
 
-      pub value_last : (ahead_of kind (drop e.index s) ≡ 3 → ⊥) → Count (m + 1) e ≡ rest_at kind m q line
+      pub value_last : (ahead_of kind (drop e.index s) ≡ 3 → ⊥) → counted (m + 1) e ≡ rest_at kind m q line
       value_last z = rw value_stop (rest_value_last (rw value_stop at h) (rw value_stop at z))
 
   -- ## A leading divider
@@ -287,42 +292,44 @@ module _ {kind : ℕ → ℕ} (ok : Reads kind) where
 
 -- ## The whole row
 
-pub is-count : (c : Bool) (n m : ℕ) (x e : Point) → Count n e ≡ cond c (Count m x) NoValues → (n ≡ m) × (e ≡ x) × (c ≡ true)
-is-count true n m x e h = (cc, cc, refl)
+pub is-count : (c : Bool) (n m : ℕ) (x e : Point) → counted n e ≡ cond c (counted m x) None → (n ≡ m) × (e ≡ x) × (c ≡ true)
+is-count true n m x e h =
+    let v : ◌≡◌ {A = Values} (record { count = n; end = e }) (record { count = m; end = x }) = cc in
+    (ap (λ (u : Values). u.count) v, ap (λ (u : Values). u.end) v, refl)
 is-count false n m x e h = absurd (let z : ◌≡◌ {A = ℕ} 0 1 = cc in omega arith)
 
-pub is_none : (c : Bool) (v : ℕ) (x : Point) → NoValues ≡ cond c (Count v x) NoValues → c ≡ false
+pub is_none : (c : Bool) (v : ℕ) (x : Point) → None ≡ cond c (counted v x) None → c ≡ false
 is_none true v x h = absurd (let z : ◌≡◌ {A = ℕ} 0 1 = cc in omega arith)
 is_none false v x h = refl
 
 module _ {kind : ℕ → ℕ} (ok : Reads kind) (on : Bool) (p : Point) (u : List ℕ) where
-  pub row_unpermitted : permitted kind on u ≡ false → NoValues ≡ delimiter_at kind on p u
+  pub row_unpermitted : permitted kind on u ≡ false → None ≡ delimiter_at kind on p u
   row_unpermitted e = rw e
 
-  pub row_unmarked : marked kind u ≡ false → NoValues ≡ delimiter_at kind on p u
+  pub row_unmarked : marked kind u ≡ false → None ≡ delimiter_at kind on p u
   row_unmarked e = rw e (go (permitted kind on u))
     where
-      go : (t : Bool) → NoValues ≡ cond (t && false) (Count (length (values kind u)) (past p u)) NoValues
+      go : (t : Bool) → None ≡ cond (t && false) (counted (length (values kind u)) (past p u)) None
       go true = refl
       go false = refl
 
   module _ (a : permitted kind on u ≡ true) (b : marked kind u ≡ true) where
-    pub row_bad : NoValues ≡ values_at kind p u → NoValues ≡ delimiter_at kind on p u
+    pub row_bad : None ≡ values_at kind p u → None ≡ delimiter_at kind on p u
     row_bad h = rw (a, b, is_none (all_values kind (values kind u)) (0 + length (values kind u)) (past p u) h) (go (ltb 0 (length (values kind u))))
       where
-        go : (t : Bool) → NoValues ≡ cond (t && false) (Count (length (values kind u)) (past p u)) NoValues
+        go : (t : Bool) → None ≡ cond (t && false) (counted (length (values kind u)) (past p u)) None
         go true = refl
         go false = refl
 
-    module _ (n : ℕ) (e : Point) (h : Count n e ≡ values_at kind p u) where
+    module _ (n : ℕ) (e : Point) (h : counted n e ≡ values_at kind p u) where
       row-values : (n ≡ 0 + length (values kind u)) × (e ≡ past p u) × (all_values kind (values kind u) ≡ true)
       row-values = is-count (all_values kind (values kind u)) n (0 + length (values kind u)) (past p u) e h
 
-      pub row_count_lem : 0 < n → Count n e ≡ delimiter_at kind on p u
+      pub row_count_lem : 0 < n → counted n e ≡ delimiter_at kind on p u
       row_count_lem z =
           let v = row-values in
           let l : n ≡ length (values kind u) = omega (arith, v.0) in
           rw (a, b, v.2, lt-ltb 0 (length (values kind u)) (rw (← l) z), l, v.1)
 
-      pub row-none : n ≤ 0 → NoValues ≡ delimiter_at kind on p u
+      pub row-none : n ≤ 0 → None ≡ delimiter_at kind on p u
       row-none z = let v = row-values in rw (a, b, le-ltb 0 (length (values kind u)) (omega (arith, v.0)))

@@ -10,14 +10,14 @@ use borrow.Author.Tests.{eqb-true, eqb-false, eq-eqb, ne_eqb}
 use lib.Dec.{eqb, ltb}
 use lib.ListN.{length, drop, get_or, length-append}
 use Rattle.tokenizer.specs.declared.event.Point.{Point}
-use Rattle.gfm_table.specs.declared.delimiter.Values.TheVariants.{Bad as NoValues}
+use Rattle.std.specs.Prelude.{Some, None}
 use Rattle.tokenizer.specs.Bytes.{Reads}
 use Rattle.tokenizer.specs.Lines.{line_body, is_empty, indent, unindented, blank}
 use Rattle.tokenizer.specs.Moves.{ahead_of, run_of, after_run}
 use Rattle.tokenizer.proofs.Ahead.{Front, goes, ends, line_case, run_stops}
 use Rattle.tokenizer.proofs.Runs.{space_split, run_split, run_on}
 use Rattle.gfm_table.specs.Heads.{untailed, hyphens, is_value, untrailed, all_values, values, marked, permitted, is_delimiter_row}
-use Rattle.gfm_table.specs.Delimiters.{stretch, closes, colon, written, value_end, rest_count, row_count, value_count, delimiter_at}
+use Rattle.gfm_table.specs.Delimiters.{stretch, closes, colon, written, value_end, rest_count, row_count, value_count, delimiter_at, positive}
 use Rattle.gfm_table.specs.Machine.{pipe_first}
 use Rattle.gfm_table.proofs.Stops.{led_ahead}
 use Rattle.gfm_table.proofs.Delimiters.{View, view, space, pipe, hyphen, other, stretch_on, stretch-indent, stretch_space, stretch-hyphens, hyphens_on, hyphens_off, hyphens-none, written_on, ends_two, ends-front}
@@ -164,7 +164,7 @@ module _ {kind : ℕ → ℕ} (ok : Reads kind) where
     at-hyphens : is_value kind (written kind (line_from s i)) ≡ hyphens kind (untailed kind (stretch kind (line_from s a)))
     at-hyphens = value_hyphens (line_from s i) ∙ ap (λ (l : List ℕ). hyphens kind (untailed kind (stretch kind l))) (sym ((passes-colon s x a f).rest ∙ ap (uncoloned kind) (passes_space s i x d).rest))
 
-    pub no-hyphens : a ≡ b → 0 ≡ value_end kind i (line_from s i)
+    pub no-hyphens : a ≡ b → None ≡ value_end kind i (line_from s i)
     no-hyphens h = rw (at-hyphens ∙ hyphens_missing (line_from s a) (omega (arith, g, h)))
 
     -- y is behind a colon at b, e behind the whitespace there
@@ -178,43 +178,31 @@ module _ {kind : ℕ → ℕ} (ok : Reads kind) where
       same_stop : (stop_from kind) s e ≡ stop_from kind s i
       same_stop = (passes_space s y e l).stop ∙ (passes-colon s b y k).stop ∙ (passes-hyphens s a b g).stop ∙ (passes-colon s x a f).stop ∙ (passes_space s i x d).stop
 
-      pub value_ends : true ≡ is_empty (stretch kind (line_from s e)) → e ≡ value_end kind i (line_from s i)
+      pub value_ends : true ≡ is_empty (stretch kind (line_from s e)) → Some e ≡ value_end kind i (line_from s i)
       value_ends z = rw (at-end ∙ sym z) (none_left (stretch kind (line_from s e)) refl (sym z))
         where
-          none_left : (w : List ℕ) → stretch kind (line_from s e) ≡ w → is_empty w ≡ true → e ≡ stop_from kind s i
-          none_left [] q z = omega (arith, same_stop, ap length q)
+          none_left : (w : List ℕ) → stretch kind (line_from s e) ≡ w → is_empty w ≡ true → Some e ≡ Some (stop_from kind s i)
+          none_left [] q z = ap Some (omega (arith, same_stop, ap length q))
           none_left (b ∷ w) q z = absurd (true≢false (sym z))
 
-      pub value_goes_on : false ≡ is_empty (stretch kind (line_from s e)) → 0 ≡ value_end kind i (line_from s i)
+      pub value_goes_on : false ≡ is_empty (stretch kind (line_from s e)) → None ≡ value_end kind i (line_from s i)
       value_goes_on z = rw (at-end ∙ sym z)
 
   -- what the end of a stretch tells
-  module _ (s : List ℕ) (i e : ℕ) (h : e ≡ value_end kind i (line_from s i)) where
-    abbrev here : List ℕ
-    here = line_from s i
-
-    -- a value has bytes
-    value_long : is_value kind (written kind here) ≡ true → 0 < length (stretch kind here)
-    unfolding unindented untailed
-    value_long = go (stretch kind here)
+  module _ (s : List ℕ) (i : ℕ) where
+    pub end_none : None ≡ value_end kind i (line_from s i) → is_value kind (written kind (line_from s i)) ≡ false
+    end_none = go (is_value kind (written kind (line_from s i)))
       where
-        go : (w : List ℕ) → is_value kind (untailed kind (unindented kind w)) ≡ true → 0 < length w
-        go [] v = absurd (true≢false (sym v))
-        go (b ∷ w) v = omega arith
+        go : (t : Bool) → None ≡ cond t (Some (stop_from kind s i)) None → t ≡ false
+        go true h = cc
+        go false h = refl
 
-    pub end_none : e ≡ 0 → is_value kind (written kind here) ≡ false
-    end_none z = go (is_value kind (written kind here)) refl
+    pub end-some : (e : ℕ) → Some e ≡ value_end kind i (line_from s i) → (is_value kind (written kind (line_from s i)) ≡ true) × (e ≡ stop_from kind s i)
+    end-some e = go (is_value kind (written kind (line_from s i)))
       where
-        go : (t : Bool) → is_value kind (written kind here) ≡ t → t ≡ false
-        go true v = absurd (omega (arith, z, value_long v, rw v at h))
-        go false v = refl
-
-    pub end-some : (e ≡ 0 → ⊥) → (is_value kind (written kind here) ≡ true) × (e ≡ stop_from kind s i)
-    end-some z = go (is_value kind (written kind here)) h z
-      where
-        go : (t : Bool) → e ≡ cond t (stop_from kind s i) 0 → (e ≡ 0 → ⊥) → (t ≡ true) × (e ≡ stop_from kind s i)
-        go true h z = (refl, h)
-        go false h z = absurd (z h)
+        go : (t : Bool) → Some e ≡ cond t (Some (stop_from kind s i)) None → (t ≡ true) × (e ≡ stop_from kind s i)
+        go true h = (refl, cc)
+        go false h = absurd (cc)
 
   -- ## The number of values
 
@@ -254,6 +242,14 @@ module _ {kind : ℕ → ℕ} (ok : Reads kind) where
 
       pub count_bad : is_value kind (written kind left) ≡ false → (ahead_of kind (drop x s) ≡ 2 → ⊥) → 0 ≡ rest_count kind n left
       count_bad v z = let f = goes ok s x (ahead_of kind (drop x s)) refl z in rw (cells_bad ok left _ _ (sym solid-rest ∙ f.line) v)
+
+      -- no value at all
+      pub count_zero : is_value kind (written kind left) ≡ false → n ≡ 0 → 0 ≡ rest_count kind n left
+      count_zero v z = go (eqb (ahead_of kind (drop x s)) 2) refl
+        where
+          go : (t : Bool) → eqb (ahead_of kind (drop x s)) 2 ≡ t → 0 ≡ rest_count kind n left
+          go true e = sym z ∙ count-empty (eqb-true (ahead_of kind (drop x s)) 2 e)
+          go false e = count_bad v (eqb-false (ahead_of kind (drop x s)) 2 e)
 
       -- the values of a line, behind a leading divider or not
       pub row-led : (Front kind) s x 3 → rest_count kind 0 (line_from s (x + 1)) ≡ row_count kind left
@@ -301,7 +297,7 @@ module _ {kind : ℕ → ℕ} (ok : Reads kind) where
         go false h = absurd (omega arith)
 
   -- no delimiter row
-  pub no_row : (on : Bool) (p : Point) (u : List ℕ) → 0 ≡ value_count kind u → NoValues ≡ delimiter_at kind on p u
+  pub no_row : (on : Bool) (p : Point) (u : List ℕ) → 0 ≡ value_count kind u → None ≡ delimiter_at kind on p u
   no_row on p u h = rw (row-counted u on, ← h, and-false (permitted kind on u))
 
   -- the first solid byte is neither a divider nor a hyphen nor a colon
@@ -324,3 +320,7 @@ module _ {kind : ℕ → ℕ} (ok : Reads kind) where
       go : (r : Bool) → eqb k 2 ≡ r → 0 ≡ value_count kind (line_from s i)
       go true j = count_unmarked (line_from s i) (unmarked ok (drop i s) (sym e ∙ eqb-true k 2 j))
       go false j = bad (goes ok s i k e (eqb-false k 2 j))
+
+-- a number above 0 is one
+pub some_number : (n : ℕ) → (n ≡ 0 → ⊥) → Some n ≡ positive n
+some_number n h = rw (ne_eqb n 0 h)

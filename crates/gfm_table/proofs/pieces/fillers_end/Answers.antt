@@ -1,23 +1,34 @@
-use Rattle.std.proofs.Common.{rules, ◌≡◌, false, ◌≤◌, ◌+◌, length, drop, ℕ, ◌-◌, ◌*◌, ◌<◌, ◌/◌, ◌%◌, Bool, true, nat_eq, nat_lt, List, [], ◌∷◌, ◌++◌, slice_index_or, slice_set, bit_and, bit_or, Fits, w8, w32, w64, Bor, MutBor}
+-- `pieces::fillers_end` meets its contract: after each byte the run ends where it ended before.
+-- Assumes nothing.
+use mathlib.Core.Path.{ap}
+use native.Mathlib.Omega.{arith}
+use lib.ListN.{length, drop}
+use Rattle.tokenizer.specs.declared.kinds.Kind.TheVariants.{Colon}
 use Rattle.tokenizer.specs.Bytes.{kind_in}
-use Rattle.tokenizer.specs.Lines.{line_body}
-use Rattle.gfm_table.specs.Rows.{delimiter_pieces}
-use Rattle.gfm_table.specs.Machine.{data_run, HeadRead}
+use Rattle.tokenizer.proofs.Ahead.{past_last}
 use Rattle.gfm_table.specs.Delimiters.{filler_run}
+use Rattle.gfm_table.proofs.KindsAhead.{front, apart_kinds, stop_kind, far_kind}
+use Rattle.gfm_table.proofs.Fillers.{fillers_stop}
+use Rattle.gfm_table.proofs.Marks.{fillers_more}
 use Rattle.gfm_table.proofs.pieces.fillers_end.Goals as goal
 
--- src/pieces.rt:77:5
-pub loop-i-init : goal.loop-i-init
-loop-i-init c = ?
-
--- src/pieces.rt:80:17
 pub returns-in-Space : goal.returns-in-Space
-returns-in-Space c = ?
+returns-in-Space c =
+    let t = c.args.text.now in
+    let e = ap length (fillers_stop t.passes.reads (drop c.loop-i.i t.bytes.now) (rw (← c.kind_at.ensures) (stop_kind c.kind_at.result c.in-Space.is))) in
+    omega (arith, e, c.loop-i.invariant.1)
 
--- src/pieces.rt:77:5
 pub loop-i-preserved : goal.loop-i-preserved
-loop-i-preserved c = ?
+loop-i-preserved c =
+    let t = c.args.text.now in
+    let o = c.in_default in
+    let f = front t.passes.reads t.bytes.now c.loop-i.i c.kind_at.result c.kind_at.ensures o.not-End in
+    let e = fillers_more t.passes.reads t.bytes.now c.loop-i.i _ f (far_kind c.kind_at.result o.not-Space o.not-End o.not-Pipe) (apart_kinds c.kind_at.result Colon o.not-Colon) in
+    (omega arith, omega (arith, e, c.loop-i.invariant.1))
 
--- src/pieces.rt:74:1
 pub returns : goal.returns
-returns c = ?
+unfolding filler_run
+returns c =
+    let t = c.args.text.now in
+    let e = ap length (ap (filler_run (kind_in t.kinds.now)) (past_last t.bytes.now c.loop-i.i c.loop-i-test.false)) in
+    omega (arith, e, c.loop-i.invariant.1, c.max.ensures)

@@ -9,8 +9,9 @@ use Rattle.gfm_table.proofs.pieces.head_row.Given as goal
 
 abbrev pub invariant-loop-i : goal.invariant-loop-i
 invariant-loop-i l =
-    (l.size + begun l.seen (solid_from (kind_in l.kinds) l.s l.i) ≡ l.initial.size + begun l.initial.seen (solid_from (kind_in l.kinds) l.s l.initial.i))
-    × (l.size_b + length (solid_from (kind_in l.kinds) l.s l.i) ≡ l.initial.size_b + length (solid_from (kind_in l.kinds) l.s l.initial.i))
+    let left = solid_from (kind_in l.text.kinds.now) l.text.bytes.now in
+    (l.size + begun l.seen (left l.i) ≡ l.initial.size + begun l.initial.seen (left l.initial.i))
+    × (l.size_b + length (left l.i) ≡ l.initial.size_b + length (left l.initial.i))
 
 abbrev pub decreases-loop-i : goal.decreases-loop-i
-decreases-loop-i l = length l.s - l.i
+decreases-loop-i l = length l.text.bytes.now - l.i

@@ -7,7 +7,9 @@ use Rattle.gfm_table.proofs.Marks.{marks_left}
 use Rattle.gfm_table.proofs.pieces.marks_from.Given as goal
 
 abbrev pub invariant-loop-i : goal.invariant-loop-i
-invariant-loop-i l = l.n + marks_left (kind_in l.kinds) l.s l.i ≡ l.initial.n + marks_left (kind_in l.kinds) l.s l.initial.i
+invariant-loop-i l =
+    let left = marks_left (kind_in l.text.kinds.now) l.text.bytes.now in
+    l.n + left l.i ≡ l.initial.n + left l.initial.i
 
 abbrev pub decreases-loop-i : goal.decreases-loop-i
-decreases-loop-i l = length l.s - l.i
+decreases-loop-i l = length l.text.bytes.now - l.i

@@ -1,15 +1,27 @@
-use Rattle.std.proofs.Common.{rules, ◌≡◌, false, ◌<◌, ◌≤◌, ◌+◌, length, drop, ℕ, ◌-◌, ◌*◌, ◌/◌, ◌%◌, Bool, true, nat_eq, nat_lt, List, [], ◌∷◌, ◌++◌, slice_index_or, slice_set, bit_and, bit_or, Fits, w8, w32, w64, Bor, MutBor}
-use Rattle.tokenizer.specs.Bytes.{kind_in}
-use Rattle.tokenizer.specs.Points.{past}
-use Rattle.tokenizer.specs.Lines.{line_body}
-use Rattle.tokenizer.specs.Moves.{rest_of, Inside}
-use Rattle.gfm_table.specs.Machine.{Counted, AtData, data_run, escaped, counted_as, passed_to, stepped, data_piece, ReadHere, whole, start_at, RowRead}
+-- `states::row_escape` meets its contract.
+-- Assumes nothing.
+use mathlib.Core.Path.{ap}
+use mathlib.Core.Logic.{⊎_elim}
+use native.Mathlib.Omega.{arith}
+use borrow.Author.Rules.{rules}
+use lib.ListN.{length, drop}
+use Rattle.tokenizer.specs.declared.kinds.Kind.TheVariants.{Pipe, Backslash}
+use Rattle.gfm_table.proofs.KindsAhead.{front_at, ahead_not}
+use Rattle.gfm_table.proofs.Stops.{escape_stops}
+use Rattle.gfm_table.proofs.Passing.{escape_one}
 use Rattle.gfm_table.proofs.states.row_escape.Goals as goal
 
--- src/states.rt:35:1
 pub returns-in-Pipe : goal.returns-in-Pipe
-returns-in-Pipe c = ?
+returns-in-Pipe c =
+    let t = c.args.text.now in
+    let here = front_at t.passes.reads t.bytes.now c.args.at c.kind_at.result c.kind_at.ensures in
+    ⊎_elim
+      (λ e. omega (arith, escape_one t.passes.reads _ _ 3 (here Pipe e (λ z. omega arith)) (omega arith) (omega arith)))
+      (λ e. omega (arith, escape_one t.passes.reads _ _ 4 (here Backslash e (λ z. omega arith)) (omega arith) (omega arith)))
+      c.in-Pipe.is
 
--- src/states.rt:35:1
 pub returns-in_default : goal.returns-in_default
-returns-in_default c = ?
+returns-in_default c =
+    let t = c.args.text.now in
+    let other = ahead_not t.passes.reads t.bytes.now c.args.at c.kind_at.result c.kind_at.ensures in
+    omega (arith, ap length (escape_stops t.passes.reads (drop c.args.at t.bytes.now) (other Pipe (search rules)) (other Backslash (search rules))))

@@ -23,32 +23,32 @@ gave-none : (kind : ℕ → ℕ) (s : List ℕ) (c : Cursor) → gave kind s 0 c
 unfolding gave
 gave-none kind s c = refl
 
-pub loop-i-preserved : goal.loop-i-preserved
-loop-i-preserved c =
-    let l = c.loop-i in
-    let s = c.args.sheet.now in
-    let kind = kind_in c.args.kinds.now in
+pub loop-slot-preserved : goal.loop-slot-preserved
+loop-slot-preserved c =
+    let l = c.loop-slot in
+    let s = c.args.text.now.bytes.now in
+    let kind = kind_in c.args.text.now.kinds.now in
     let n = length c.args.slots.now in
-    let k : n - l.i ≡ suc (n - (l.i + 1)) = omega arith in
+    let k : n - l.slot-index ≡ suc (n - (l.slot-index + 1)) = omega arith in
     let next = (step_of kind s l.cursor).next in
     rw c.step-r.ensures (
-      good-next c.requires.1.reads s (λ e. []) l.cursor l.invariant.0,
+      good-next c.args.text.now.passes.reads s (λ e. []) l.cursor l.invariant.0,
       l.invariant.1
-          ∙ ap (λ (m : ℕ). take l.i l.slots ++ gave kind s m l.cursor) k
-          ∙ ap (λ (r : List Event). take l.i l.slots ++ r) (gave-more kind s l.cursor (n - (l.i + 1)))
-          ∙ take-set l.slots l.i (step_of kind s l.cursor).event (gave kind s (n - (l.i + 1)) next) (omega arith),
+          ∙ ap (λ (m : ℕ). take l.slot-index l.slots ++ gave kind s m l.cursor) k
+          ∙ ap (λ (r : List Event). take l.slot-index l.slots ++ r) (gave-more kind s l.cursor (n - (l.slot-index + 1)))
+          ∙ take-set l.slots l.slot-index (step_of kind s l.cursor).event (gave kind s (n - (l.slot-index + 1)) next) (omega arith),
     )
 
 pub returns : goal.returns
 returns c =
-    let l = c.loop-i in
-    let s = c.args.sheet.now in
-    let kind = kind_in c.args.kinds.now in
-    let k : length c.args.slots.now - l.i ≡ 0 = omega arith in
+    let l = c.loop-slot in
+    let s = c.args.text.now.bytes.now in
+    let kind = kind_in c.args.text.now.kinds.now in
+    let k : length c.args.slots.now - l.slot-index ≡ 0 = omega arith in
     sym (
     l.invariant.1
-    ∙ ap (λ (m : ℕ). take l.i l.slots ++ gave kind s m l.cursor) k
-    ∙ ap (λ (r : List Event). take l.i l.slots ++ r) (gave-none kind s l.cursor)
-    ∙ append-nil (take l.i l.slots)
-    ∙ take_all l.i l.slots (omega arith)
+    ∙ ap (λ (m : ℕ). take l.slot-index l.slots ++ gave kind s m l.cursor) k
+    ∙ ap (λ (r : List Event). take l.slot-index l.slots ++ r) (gave-none kind s l.cursor)
+    ∙ append-nil (take l.slot-index l.slots)
+    ∙ take_all l.slot-index l.slots (omega arith)
     )

@@ -4,10 +4,8 @@ use Rattle.tokenizer.specs.Bytes.{kind_in}
 use Rattle.gfm_table.specs.Stream.{gave, Good}
 use Rattle.gfm_table.proofs.stream.fill.Given as goal
 
-abbrev pub invariant-loop-i : goal.invariant-loop-i
-invariant-loop-i l =
-    Good l.sheet l.cursor
-    × (gave (kind_in l.kinds) l.sheet (length l.initial.slots) l.initial.cursor ≡ take l.i l.slots ++ gave (kind_in l.kinds) l.sheet (length l.initial.slots - l.i) l.cursor)
-
-abbrev pub decreases-loop-i : goal.decreases-loop-i
-decreases-loop-i l = length l.initial.slots - l.i
+abbrev pub invariant-loop-slot : goal.invariant-loop-slot
+invariant-loop-slot l =
+    let gives = gave (kind_in l.text.kinds.now) l.text.bytes.now in
+    let n = length l.initial.slots in
+    Good l.text.bytes.now l.cursor × (gives n l.initial.cursor ≡ take l.slot-index l.slots ++ gives (n - l.slot-index) l.cursor)

@@ -1,34 +1,46 @@
--- `values::marked_from` meets its contract. The measure is the bytes left.
+-- `values::marked_from` meets its contract: a colon or a divider is found, or the line ends.
 -- Assumes nothing.
-use mathlib.Core.Path.{◌≡◌, sym, ◌∙◌}
+use mathlib.Core.Bool.{true, ◌||◌}
+use mathlib.Core.Logic.{⊎_elim}
+use mathlib.Core.Path.{◌≡◌, ap, sym, ◌∙◌}
 use native.Mathlib.Omega.{arith}
-use borrow.Author.Rules.{rules}
 use borrow.Author.Tests.{ne_eqb}
+use lib.Dec.{eqb}
 use lib.ListN.{drop}
-use Rattle.tokenizer.proofs.Ahead.{goes}
+use Rattle.tokenizer.specs.declared.kinds.Kind.TheVariants.{Pipe, Colon}
+use Rattle.tokenizer.specs.Bytes.{kind_number, kind_in}
+use Rattle.tokenizer.proofs.Ahead.{past_last}
+use Rattle.gfm_table.specs.Heads.{marked}
+use Rattle.gfm_table.proofs.KindsAhead.{front, front_at, apart_kinds}
 use Rattle.gfm_table.proofs.Stretches.{unmarked, marked-at}
 use Rattle.gfm_table.proofs.values.marked_from.Goals as goal
 
-pub returns-in-2 : goal.returns-in-2
-returns-in-2 c =
+pub returns-in-Pipe : goal.returns-in-Pipe
+returns-in-Pipe c =
+    let t = c.args.text.now in
     let l = c.loop-i in
-    unmarked c.requires.reads (drop l.i c.args.s.now) (sym c.kind_at.ensures ∙ c.in-2.is) ∙ l.invariant
-
-pub returns-in-3 : goal.returns-in-3
-returns-in-3 c =
-    let l = c.loop-i in
-    sym (marked-at c.requires.reads _ l.i 3 (goes c.requires.reads _ _ 3 (sym c.in-3.is ∙ c.kind_at.ensures) (λ z. omega arith))) ∙ l.invariant
-
-pub returns-in-6 : goal.returns-in-6
-returns-in-6 c =
-    let l = c.loop-i in
-    sym (marked-at c.requires.reads _ l.i 6 (goes c.requires.reads _ _ 6 (sym c.in-6.is ∙ c.kind_at.ensures) (λ z. omega arith))) ∙ l.invariant
+    ⊎_elim
+      (λ e. sym (marked-at t.passes.reads _ l.i 3 (front_at t.passes.reads t.bytes.now l.i c.kind_at.result c.kind_at.ensures Pipe e (λ z. omega arith))) ∙ l.invariant.1)
+      (λ e. sym (marked-at t.passes.reads _ l.i 6 (front_at t.passes.reads t.bytes.now l.i c.kind_at.result c.kind_at.ensures Colon e (λ z. omega arith))) ∙ l.invariant.1)
+      c.in-Pipe.is
 
 pub loop-i-preserved : goal.loop-i-preserved
 loop-i-preserved c =
+    let t = c.args.text.now in
     let l = c.loop-i in
-    let f = goes c.requires.reads _ _ _ c.kind_at.ensures (search rules) in
-    let three : c.kind_at.result ≡ 3 → ⊥ = search rules in
-    let six : c.kind_at.result ≡ 6 → ⊥ = search rules in
-    let m = marked-at c.requires.reads _ l.i _ f in
-    sym (rw (ne_eqb _ 3 three, ne_eqb _ 6 six) at m) ∙ l.invariant
+    let o = c.in_default in
+    let m = marked-at t.passes.reads _ l.i _ (front t.passes.reads t.bytes.now l.i c.kind_at.result c.kind_at.ensures o.not-End) in
+    (omega arith, sym (rw (ne_eqb _ 3 (apart_kinds c.kind_at.result Pipe o.not-Pipe), ne_eqb _ 6 (apart_kinds c.kind_at.result Colon o.not-Colon)) at m) ∙ l.invariant.1)
+
+pub returns-in-End : goal.returns-in-End
+returns-in-End c =
+    let t = c.args.text.now in
+    let l = c.loop-i in
+    unmarked t.passes.reads (drop l.i t.bytes.now) (sym c.kind_at.ensures ∙ ap kind_number c.in-End.is) ∙ l.invariant.1
+
+pub returns-after-loop-i : goal.returns-after-loop-i
+unfolding marked
+returns-after-loop-i c =
+    let t = c.args.text.now in
+    let l = c.loop-i in
+    sym (ap (marked (kind_in t.kinds.now)) (past_last t.bytes.now l.i c.loop-i-test.false)) ∙ l.invariant.1

@@ -1,14 +1,11 @@
--- The measure is the bytes left.
-use Prim.Native.Nat.{◌-◌}
-use mathlib.Core.Path.{◌≡◌}
-use lib.ListN.{length, drop}
+-- After each byte the answer for what is left is the answer for the whole.
+use Rattle.std.proofs.Common.{◌≡◌, ◌≤◌, length, max}
 use Rattle.tokenizer.specs.Bytes.{kind_in}
 use Rattle.gfm_table.specs.Heads.{marked}
-use Rattle.tokenizer.specs.Lines.{line_body}
+use Rattle.gfm_table.proofs.Passing.{line_from}
 use Rattle.gfm_table.proofs.values.marked_from.Given as goal
 
 abbrev pub invariant-loop-i : goal.invariant-loop-i
-invariant-loop-i l = marked (kind_in l.kinds) (line_body (drop l.i l.s)) ≡ marked (kind_in l.kinds) (line_body (drop l.initial.i l.s))
-
-abbrev pub decreases-loop-i : goal.decreases-loop-i
-decreases-loop-i l = length l.s - l.i
+invariant-loop-i l =
+    let left = λ (i : _). marked (kind_in l.text.kinds.now) (line_from l.text.bytes.now i) in
+    (l.i ≤ max l.at (length l.text.bytes.now)) × (left l.i ≡ left l.at)

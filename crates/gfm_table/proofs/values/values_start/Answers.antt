@@ -1,18 +1,19 @@
 -- `values::values_start` meets its contract: nothing stands before a leading divider.
 -- Assumes nothing.
-use mathlib.Core.Path.{sym, ◌∙◌}
+use mathlib.Core.Path.{◌∙◌}
 use native.Mathlib.Omega.{arith}
-use Rattle.tokenizer.proofs.Ahead.{goes}
+use Rattle.tokenizer.specs.declared.kinds.Kind.TheVariants.{Pipe}
+use Rattle.tokenizer.proofs.SameKinds.{same_front, other_number}
 use Rattle.gfm_table.proofs.ValuePlaces.{row-led, row_plain}
 use Rattle.gfm_table.proofs.values.values_start.Goals as goal
 
-pub returns-then-kind_at-eq3 : goal.returns-then-kind_at-eq3
-returns-then-kind_at-eq3 c =
-    let a = c.args in
-    let f = goes c.requires.1.reads a.s.now c.spaces_end-a.result 3 (sym c.if-kind_at-eq3.true ∙ c.kind_at.ensures) (λ z. omega arith) in
-    (omega (arith, f.below), row-led c.requires.1.reads a.s.now a.at 0 _ c.spaces_end-a.ensures f)
+pub returns-then-eq : goal.returns-then-eq
+returns-then-eq c =
+    let t = c.args.text.now in
+    let f = same_front t.passes.reads t.bytes.now c.space_stop-a.result _ Pipe c.kind_at.ensures c.eq.ensures c.if-eq.true (λ z. omega arith) in
+    (omega (arith, f.below), row-led t.passes.reads t.bytes.now c.args.at 0 _ c.space_stop-a.ensures f)
 
 pub returns : goal.returns
 returns c =
-    let a = c.args in
-    (c.requires.0, row_plain c.requires.1.reads a.s.now a.at 0 _ c.spaces_end-a.ensures (λ z. c.if-kind_at-eq3.false (c.kind_at.ensures ∙ z)))
+    let t = c.args.text.now in
+    (c.requires, row_plain t.passes.reads t.bytes.now c.args.at 0 _ c.space_stop-a.ensures (λ z. other_number _ Pipe c.eq.ensures c.if-eq.false (c.kind_at.ensures ∙ z)))
