@@ -19,8 +19,6 @@ use Rattle.tokenizer.proofs.Starts.{starts_far, ends-few}
 use Rattle.tokenizer.proofs.Ends.{body-inside, end-past}
 use Rattle.gfm_table.specs.declared.stream.Part.TheVariants.{Head, Body}
 use Rattle.gfm_table.specs.declared.stream.Cursor.TheVariants.{Begin, Enter}
-use Rattle.gfm_table.specs.declared.calls.Head.TheVariants as head
-use Rattle.gfm_table.specs.declared.calls.Row.TheVariants as row
 use Rattle.gfm_table.specs.Rows.{Piece, joins, on_pieces, row_name, odd_after, row_pieces, delimiter_name, delimiter_pieces, passed, all_both, raw_row}
 use Rattle.gfm_table.specs.Heads.{head_refusal}
 use Rattle.gfm_table.specs.Raw.{row_at, head_events}
@@ -28,7 +26,7 @@ use Rattle.gfm_table.specs.Answers.{opened_at}
 use Rattle.gfm_table.specs.Stream.{gave, Good}
 use Rattle.gfm_table.proofs.Answers.{refused_end}
 use Rattle.gfm_table.proofs.Coming.{row_from, broken, delimited, coming, gave_slots}
-use Rattle.gfm_table.specs.Calls.{place_refusal, slot_refusal, or_else, point_at, nowhere, head_events_at, head_refused, head_found, head_number, head_of, head_slots, head_plan, row_events_at, row_refused, row_found, row_number, row_of, row_slots, row_plan}
+use Rattle.gfm_table.specs.Calls.{place_refusal, slot_refusal, or_else, point_at, head_events_at, head_number, head_slots, row_events_at, row_number, row_slots}
 
 -- ## Few pieces
 
@@ -102,66 +100,40 @@ module _ (s : List ℕ) (i : ℕ) where
 
 -- ## Heads
 
-module _ {kind : ℕ → ℕ} (ok : Reads kind) where
-  module _ (s : List ℕ) (i : ℕ) (on stray : Bool) (n : ℕ) where
-    pub head-place : (place_refusal s i ≡ 0 → ⊥) → head_refused (place_refusal s i) ≡ head_plan kind s i on stray n
-    unfolding head_plan
-    head-place z = simp (ne_eqb (place_refusal s i) 0 z)
+module _ (kind : ℕ → ℕ) (s : List ℕ) (i : ℕ) (on stray : Bool) (n : ℕ) where
+  abbrev p : Point
+  p = point_at s i
 
-    module _ (e : place_refusal s i ≡ 0) where
-      abbrev p : Point
-      p = point_at s i
+  abbrev no : ℕ
+  no = head_refusal kind on stray (line_at s p) (line_at s (after s p))
 
-      abbrev no : ℕ
-      no = head_refusal kind on stray (line_at s p) (line_at s (after s p))
+  -- the number that refuses it: that of the place, else that of the lines, else that of the slots
+  pub head-place : (place_refusal s i ≡ 0 → ⊥) → head_number kind s i on stray n ≡ place_refusal s i
+  head-place z = rw (ne_eqb (place_refusal s i) 0 z)
 
-      pub head-no : (no ≡ 0 → ⊥) → head_refused no ≡ head_plan kind s i on stray n
-      unfolding head_plan
-      head-no z = simp (eq-eqb (place_refusal s i) 0 e, ne_eqb no 0 z)
+  pub head-lines : place_refusal s i ≡ 0 → (no ≡ 0 → ⊥) → head_number kind s i on stray n ≡ no
+  head-lines e z = rw (eq-eqb (place_refusal s i) 0 e, ne_eqb no 0 z)
 
-      pub head_yes : no ≡ 0 → head_found (length (head_events_at kind s p)) p (opened_at kind s p) n ≡ head_plan kind s i on stray n
-      unfolding head_plan
-      head_yes z = simp (eq-eqb (place_refusal s i) 0 e, eq-eqb no 0 z) (go (ltb n (length (head_events_at kind s p))))
-        where
-          go : (t : Bool) → cond t (head_refused 9) (record { answer = head.Accepted (length (head_events_at kind s p)) (opened_at kind s p).end.index (opened_at kind s p).cells; cursor = Begin p })
-              ≡ record {
-                answer = cond (eqb (cond t 9 0) 0) (head.Accepted (length (head_events_at kind s p)) (opened_at kind s p).end.index (opened_at kind s p).cells) (head.Refused (cond t 9 0));
-                cursor = cond (eqb (cond t 9 0) 0) (Begin p) nowhere;
-              }
-          go true = refl
-          go false = refl
+  pub head-slots : place_refusal s i ≡ 0 → no ≡ 0 → head_number kind s i on stray n ≡ slot_refusal n (head_events_at kind s p)
+  head-slots e z = rw (eq-eqb (place_refusal s i) 0 e, eq-eqb no 0 z)
 
-  -- ## Rows
+-- ## Rows
 
-  module _ (s : List ℕ) (i : ℕ) (lazy : Bool) (n : ℕ) where
-    pub row-place : (place_refusal s i ≡ 0 → ⊥) → row_refused (place_refusal s i) ≡ row_plan kind s i lazy n
-    unfolding row_plan
-    row-place z = simp (ne_eqb (place_refusal s i) 0 z)
+module _ (kind : ℕ → ℕ) (s : List ℕ) (i : ℕ) (lazy : Bool) (n : ℕ) where
+  abbrev at : Point
+  at = point_at s i
 
-    module _ (e : place_refusal s i ≡ 0) where
-      pub row_lazy : lazy ≡ true → row_refused 5 ≡ row_plan kind s i lazy n
-      unfolding row_plan
-      row_lazy f = simp (eq-eqb (place_refusal s i) 0 e, f)
+  pub row-place : (place_refusal s i ≡ 0 → ⊥) → row_number kind s i lazy n ≡ place_refusal s i
+  row-place z = rw (ne_eqb (place_refusal s i) 0 z)
 
-      module _ (f : lazy ≡ false) where
-        abbrev at : Point
-        at = point_at s i
+  pub row_lazy : place_refusal s i ≡ 0 → lazy ≡ true → row_number kind s i lazy n ≡ 5
+  row_lazy e f = rw (eq-eqb (place_refusal s i) 0 e, f)
 
-        pub row-blank : blank kind (rest_of s at) ≡ true → row_refused 8 ≡ row_plan kind s i lazy n
-        unfolding row_plan
-        row-blank g = simp (eq-eqb (place_refusal s i) 0 e, f, g)
+  pub row-blank : place_refusal s i ≡ 0 → lazy ≡ false → blank kind (rest_of s at) ≡ true → row_number kind s i lazy n ≡ 8
+  row-blank e f g = rw (eq-eqb (place_refusal s i) 0 e, f, g)
 
-        pub row_yes : blank kind (rest_of s at) ≡ false → row_found (length (row_events_at kind s at)) at (past at (rest_of s at)) n ≡ row_plan kind s i lazy n
-        unfolding row_plan
-        row_yes g = simp (eq-eqb (place_refusal s i) 0 e, f, g) (go (ltb n (length (row_events_at kind s at))))
-          where
-            go : (t : Bool) → cond t (row_refused 9) (record { answer = row.Accepted (length (row_events_at kind s at)) (past at (rest_of s at)).index; cursor = Enter Body at })
-                ≡ record {
-                  answer = cond (eqb (cond t 9 0) 0) (row.Accepted (length (row_events_at kind s at)) (past at (rest_of s at)).index) (row.Refused (cond t 9 0));
-                  cursor = cond (eqb (cond t 9 0) 0) (Enter Body at) nowhere;
-                }
-            go true = refl
-            go false = refl
+  pub row-slots : place_refusal s i ≡ 0 → lazy ≡ false → blank kind (rest_of s at) ≡ false → row_number kind s i lazy n ≡ slot_refusal n (row_events_at kind s at)
+  row-slots e f g = rw (eq-eqb (place_refusal s i) 0 e, f, g)
 
 -- ## Slots
 
@@ -185,53 +157,35 @@ module _ {kind : ℕ → ℕ} (ok : Reads kind) where
   unfolding coming
   coming-row s p = append-nil (row_events_at kind s p)
 
-  coming-none : (s : List ℕ) → coming ok s (λ e. []) nowhere ≡ []
-  unfolding coming
-  coming-none s = refl
-
   module _ (s : List ℕ) (i : ℕ) (on stray : Bool) (n : ℕ) where
-    pub head-good : Good s (head_plan kind s i on stray n).cursor
-    unfolding head_plan
-    head-good = go (eqb (head_number kind s i on stray n) 0) refl
-      where
-        go : (t : Bool) → eqb (head_number kind s i on stray n) 0 ≡ t → Good s (cond t (Begin (point_at s i)) nowhere)
-        go true e = place_inside s i (or_zero _ _ (eqb-true (head_number kind s i on stray n) 0 e)).0
-        go false e = omega arith
+    -- the cursor of a head that is accepted is good, and gives the slots
+    pub head-good : head_number kind s i on stray n ≡ 0 → Good s (Begin (point_at s i))
+    head-good e = place_inside s i (or_zero _ _ e).0
 
-    pub head_slots_lem : (gave kind) s n (head_plan kind s i on stray n).cursor ≡ head_slots kind s i on stray n
-    unfolding head_plan
-    head_slots_lem = gave_slots ok s n (head_plan kind s i on stray n).cursor head-good ∙ ap (slots_of n) (go (eqb (head_number kind s i on stray n) 0) refl)
-      where
-        go : (t : Bool) → eqb (head_number kind s i on stray n) 0 ≡ t → coming ok s (λ e. []) (cond t (Begin (point_at s i)) nowhere) ≡ cond t (head_events_at kind s (point_at s i)) []
-        go true e =
-            let q = point_at s i in
-            let m = slot_refusal n (head_events_at kind s q) in
-            let r = head_refusal kind on stray (line_at s q) (line_at s (after s q)) in
-            let z : r ≡ 0 = (or_zero r m (or_zero (place_refusal s i) (or_else r m) (eqb-true (head_number kind s i on stray n) 0 e)).1).0 in
-            coming-head s (point_at s i) (refused_end ok on stray (line_at s (point_at s i)) (line_at s (after s (point_at s i))) z)
-        go false e = coming-none s
+    pub head_gives : head_number kind s i on stray n ≡ 0 → gave kind s n (Begin (point_at s i)) ≡ head_slots kind s i on stray n
+    head_gives e =
+        let q = point_at s i in
+        let m = slot_refusal n (head_events_at kind s q) in
+        let r = head_refusal kind on stray (line_at s q) (line_at s (after s q)) in
+        let z : r ≡ 0 = (or_zero r m (or_zero (place_refusal s i) (or_else r m) e).1).0 in
+        gave_slots ok s n (Begin q) (head-good e)
+        ∙ ap (slots_of n) (coming-head s q (refused_end ok on stray (line_at s q) (line_at s (after s q)) z))
+        ∙ ap (λ (t : Bool). slots_of n (cond t (head_events_at kind s q) [])) (sym (eq-eqb _ 0 e))
+
+    -- the slots of one that is refused are blank
+    pub head_blanks : (head_number kind s i on stray n ≡ 0 → ⊥) → slots_of n [] ≡ head_slots kind s i on stray n
+    head_blanks z = rw (ne_eqb (head_number kind s i on stray n) 0 z)
 
   module _ (s : List ℕ) (i : ℕ) (lazy : Bool) (n : ℕ) where
-    pub row-good : Good s (row_plan kind s i lazy n).cursor
-    unfolding row_plan
-    row-good = go (eqb (row_number kind s i lazy n) 0) refl
-      where
-        go : (t : Bool) → eqb (row_number kind s i lazy n) 0 ≡ t → Good s (cond t (Enter Body (point_at s i)) nowhere)
-        go true e = place_inside s i (or_zero _ _ (eqb-true (row_number kind s i lazy n) 0 e)).0
-        go false e = omega arith
+    pub row-good : row_number kind s i lazy n ≡ 0 → Good s (Enter Body (point_at s i))
+    row-good e = place_inside s i (or_zero _ _ e).0
 
-    pub row_slots_lem : (gave kind) s n (row_plan kind s i lazy n).cursor ≡ row_slots kind s i lazy n
-    unfolding row_plan
-    row_slots_lem = gave_slots ok s n (row_plan kind s i lazy n).cursor row-good ∙ ap (slots_of n) (go (eqb (row_number kind s i lazy n) 0))
-      where
-        go : (t : Bool) → coming ok s (λ e. []) (cond t (Enter Body (point_at s i)) nowhere) ≡ cond t (row_events_at kind s (point_at s i)) []
-        go true = coming-row s (point_at s i)
-        go false = coming-none s
+    pub row_gives : row_number kind s i lazy n ≡ 0 → gave kind s n (Enter Body (point_at s i)) ≡ row_slots kind s i lazy n
+    row_gives e =
+        let q = point_at s i in
+        gave_slots ok s n (Enter Body q) (row-good e)
+        ∙ ap (slots_of n) (coming-row s q)
+        ∙ ap (λ (t : Bool). slots_of n (cond t (row_events_at kind s q) [])) (sym (eq-eqb _ 0 e))
 
-  pub head-answer : (s : List ℕ) (i : ℕ) (on stray : Bool) (n : ℕ) → (head_plan kind s i on stray n).answer ≡ head_of kind s i on stray n
-  unfolding head_plan
-  head-answer s i on stray n = refl
-
-  pub row-answer : (s : List ℕ) (i : ℕ) (lazy : Bool) (n : ℕ) → (row_plan kind s i lazy n).answer ≡ row_of kind s i lazy n
-  unfolding row_plan
-  row-answer s i lazy n = refl
+    pub row_blanks : (row_number kind s i lazy n ≡ 0 → ⊥) → slots_of n [] ≡ row_slots kind s i lazy n
+    row_blanks z = rw (ne_eqb (row_number kind s i lazy n) 0 z)

@@ -19,3 +19,4 @@ pub mod Onward
 pub mod Turning
 pub mod Blanks
 pub mod Writing
+pub mod Answering

@@ -8,5 +8,6 @@ use Rattle.gfm_table.proofs.calls.head_events.Goals as goal
 
 pub overflow_add-result : goal.overflow_add-result
 overflow_add-result c =
+    let t = c.args.text.now in
     let d = c.args.o.delimiter in
-    record { fits = omega (arith, c.marks_from.ensures, c.requires.1, delimiter-few (kind_in c.args.kinds.now) (rest_of c.args.s.now d), rest-few c.args.s.now d c.requires.0) }
+    record { fits = omega (arith, c.marks_from.ensures, c.requires.1, delimiter-few (kind_in t.kinds.now) (rest_of t.bytes.now d), rest-few t.bytes.now d c.requires.0) }
