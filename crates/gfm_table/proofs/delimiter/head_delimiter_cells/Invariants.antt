@@ -8,7 +8,10 @@ use Rattle.gfm_table.specs.Delimiters.{rest_at}
 use Rattle.gfm_table.proofs.delimiter.head_delimiter_cells.Given as goal
 
 abbrev pub invariant-loop-e : goal.invariant-loop-e
-invariant-loop-e l = Inside l.s l.q × (l.m ≤ l.q.index) × (rest_at (kind_in l.kinds) l.m l.q (rest_of l.s l.q) ≡ rest_at (kind_in l.kinds) l.initial.m l.initial.q (rest_of l.s l.initial.q))
+invariant-loop-e l =
+    let s = l.text.bytes.now in
+    let left = rest_at (kind_in l.text.kinds.now) in
+    Inside s l.q × (l.m ≤ l.q.index) × (left l.m l.q (rest_of s l.q) ≡ left l.initial.m l.initial.q (rest_of s l.initial.q))
 
 abbrev pub decreases-loop-e : goal.decreases-loop-e
-decreases-loop-e l = length l.s - l.q.index
+decreases-loop-e l = length l.text.bytes.now - l.q.index

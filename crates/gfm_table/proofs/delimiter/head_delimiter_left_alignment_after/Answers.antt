@@ -1,23 +1,24 @@
 -- `head_delimiter_left_alignment_after` meets its contract: a run of hyphens, and what may follow it.
 -- Assumes nothing.
-use mathlib.Core.Path.{sym, ◌∙◌}
+use mathlib.Core.Path.{◌∙◌}
 use native.Mathlib.Omega.{arith}
-use borrow.Author.Rules.{rules}
-use Rattle.tokenizer.proofs.Ahead.{goes}
+use Rattle.tokenizer.specs.declared.kinds.Kind.TheVariants.{Hyphen}
+use Rattle.gfm_table.proofs.KindsAhead.{front_at, ahead_not}
 use Rattle.gfm_table.proofs.Delimiters.{filled-inside, hyphens_value, hyphens_bad}
 use Rattle.gfm_table.proofs.delimiter.head_delimiter_left_alignment_after.Goals as goal
-use mathlib.Core.Path.{◌≡◌}
 
 pub head_delimiter_filler-requires : goal.head_delimiter_filler-requires
-head_delimiter_filler-requires c = rw c.run_end.ensures (filled-inside c.requires.1.reads c.args.s.now c.args.p c.requires.0, c.requires.1)
+head_delimiter_filler-requires c =
+    let t = c.args.text.now in
+    rw c.run_end.ensures (filled-inside t.passes.reads t.bytes.now c.args.p c.requires)
 
-pub returns-in-5 : goal.returns-in-5
-returns-in-5 c =
-    let a = c.args in
-    (rw c.run_end.ensures at c.head_delimiter_filler.ensures)
-    ∙ hyphens_value c.requires.1.reads a.s.now a.p (goes c.requires.1.reads _ _ 5 (sym c.in-5.is ∙ c.ahead.ensures) (λ z. omega arith))
+pub returns-in-Hyphen : goal.returns-in-Hyphen
+returns-in-Hyphen c =
+    let t = c.args.text.now in
+    let f = front_at t.passes.reads t.bytes.now c.args.p.index c.ahead.result c.ahead.ensures Hyphen c.in-Hyphen.is (λ z. omega arith) in
+    (rw c.run_end.ensures at c.head_delimiter_filler.ensures) ∙ hyphens_value t.passes.reads t.bytes.now c.args.p f
 
 pub returns-in_default : goal.returns-in_default
 returns-in_default c =
-    let five : c.ahead.result ≡ 5 → ⊥ = search rules in
-    hyphens_bad c.requires.1.reads c.args.s.now c.args.p (λ z. five (c.ahead.ensures ∙ z))
+    let t = c.args.text.now in
+    hyphens_bad t.passes.reads t.bytes.now c.args.p (ahead_not t.passes.reads t.bytes.now c.args.p.index c.ahead.result c.ahead.ensures Hyphen c.in_default.not-Hyphen)

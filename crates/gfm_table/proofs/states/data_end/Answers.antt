@@ -12,24 +12,24 @@ use Rattle.gfm_table.specs.Machine.{data_run, data_rest}
 use Rattle.gfm_table.proofs.Runs.{data_split, data_columns}
 use Rattle.gfm_table.proofs.states.data_end.Goals as goal
 
-pub overflow_cast-e : goal.overflow_cast-e
-overflow_cast-e c =
-    let h = inside-end (data_run (kind_in c.args.kinds.now) false) (data_rest (kind_in c.args.kinds.now) false) (data_split (kind_in c.args.kinds.now) false) c.args.s.now c.args.p c.requires.0 in
-    let e = c.text_end-e.ensures in
+pub overflow_cast-index : goal.overflow_cast-index
+overflow_cast-index c =
+    let h = inside-end (data_run (kind_in c.args.text.now.kinds.now) false) (data_rest (kind_in c.args.text.now.kinds.now) false) (data_split (kind_in c.args.text.now.kinds.now) false) c.args.text.now.bytes.now c.args.p c.requires in
+    let e = c.text_end-index.ensures in
     record { fits = omega (arith, e, h.within, h.short) }
 
-pub overflow_add-column : goal.overflow_add-column
-overflow_add-column c =
-    let h = inside-end (data_run (kind_in c.args.kinds.now) false) (data_rest (kind_in c.args.kinds.now) false) (data_split (kind_in c.args.kinds.now) false) c.args.s.now c.args.p c.requires.0 in
-    let e = c.text_end-e.ensures in
-    let i = c.requires.0 in
-    let below : c.args.p.index ≤ c.text_end-e.result = omega (arith, e) in
-    let short : c.text_end-e.result ≤ 65536 = omega (arith, e, h.within, h.short) in
+pub overflow_add-result : goal.overflow_add-result
+overflow_add-result c =
+    let h = inside-end (data_run (kind_in c.args.text.now.kinds.now) false) (data_rest (kind_in c.args.text.now.kinds.now) false) (data_split (kind_in c.args.text.now.kinds.now) false) c.args.text.now.bytes.now c.args.p c.requires in
+    let e = c.text_end-index.ensures in
+    let i = c.requires in
+    let below : c.args.p.index ≤ c.text_end-index.result = omega (arith, e) in
+    let short : c.text_end-index.result ≤ 65536 = omega (arith, e, h.within, h.short) in
     record { fits = omega (arith, i.narrow, i.within, i.short, below, short) }
 
 pub returns : goal.returns
 returns c =
-    let u = rest_of c.args.s.now c.args.p in
-    let e = c.text_end-e.ensures in
-    let m : c.text_end-e.result - c.args.p.index ≡ length (data_run (kind_in c.args.kinds.now) false u) = omega (arith, e) in
-    rw (data_columns c.requires.1.reads false u c.args.p.column, m, e)
+    let u = rest_of c.args.text.now.bytes.now c.args.p in
+    let e = c.text_end-index.ensures in
+    let m : c.text_end-index.result - c.args.p.index ≡ length (data_run (kind_in c.args.text.now.kinds.now) false u) = omega (arith, e) in
+    rw (data_columns c.args.text.now.passes.reads false u c.args.p.column, m, e)

@@ -7,7 +7,7 @@ use Rattle.gfm_table.specs.Machine.{Counted, whole}
 use Rattle.gfm_table.proofs.states.row_end.Given as goal
 
 abbrev pub invariant-loop-t : goal.invariant-loop-t
-invariant-loop-t l = Counted l.s l.q × (whole (kind_in l.kinds) l.s l.q ≡ whole (kind_in l.kinds) l.s l.initial.q)
+invariant-loop-t l = Counted l.text.bytes.now l.q × (whole (kind_in l.text.kinds.now) l.text.bytes.now l.q ≡ whole (kind_in l.text.kinds.now) l.text.bytes.now l.initial.q)
 
 abbrev pub decreases-loop-t : goal.decreases-loop-t
-decreases-loop-t l = length l.s - l.q.count
+decreases-loop-t l = length l.text.bytes.now - l.q.count

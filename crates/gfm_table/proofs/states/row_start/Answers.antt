@@ -1,29 +1,27 @@
 -- `row_start` meets its contract: what stands after the indent says whether a divider leads.
 -- Assumes nothing.
-use mathlib.Core.Bool.{true, false}
-use mathlib.Core.Path.{◌≡◌, sym, ◌∙◌}
-use borrow.Author.Rules.{rules}
-use borrow.Author.Tests.{eq-eqb, ne_eqb}
-use Rattle.tokenizer.specs.Bytes.{kind_in}
-use Rattle.tokenizer.specs.Lines.{unindented}
-use Rattle.tokenizer.specs.Moves.{rest_of}
-use Rattle.gfm_table.specs.Machine.{pipe_first}
+use Prim.Native.Nat.{ℕ}
+use mathlib.Core.Bool.{Bool, true, false, not, cond}
+use mathlib.Core.Path.{◌≡◌, ap, sym, ◌∙◌}
+use lib.Dec.{eqb}
+use mir.Val.{bool_byte}
+use Rattle.std.specs.Prelude.{None}
+use Rattle.tokenizer.specs.declared.event.Point.{Point}
+use Rattle.tokenizer.specs.declared.kinds.Kind.TheVariants.{Pipe}
+use Rattle.tokenizer.proofs.SameKinds.{same-numbers}
+use Rattle.gfm_table.specs.declared.states.Scan.{Scan}
 use Rattle.gfm_table.proofs.Stops.{led_ahead}
 use Rattle.gfm_table.proofs.states.row_start.Goals as goal
 
-pub returns-in-3 : goal.returns-in-3
-returns-in-3 c =
-    let a = c.args in
-    let kind = kind_in a.kinds.now in
-    let h = rw c.space_end-q.ensures at c.ahead.ensures in
-    let l : pipe_first kind (unindented kind (rest_of a.s.now a.p)) ≡ true = led_ahead c.requires.1.reads a.s.now a.p ∙ eq-eqb _ 3 (sym h ∙ c.in-3.is) in
-    rw l
+-- the state where a divider leads, and where none does
+started : (p : Point) (led seen : Bool) (b : ℕ) → seen ≡ not led → b ≡ bool_byte seen
+    → ◌≡◌ {A = Scan} (record { at = p; from = p; name = None; count = 0; size = 0; size_b = b; seen = seen }) (record { at = p; from = p; name = None; count = 0; size = 0; size_b = cond led 0 1; seen = not led })
+started p true seen b e f = rw (f, e)
+started p false seen b e f = rw (f, e)
 
-pub returns-in_default : goal.returns-in_default
-returns-in_default c =
-    let a = c.args in
-    let kind = kind_in a.kinds.now in
-    let h = rw c.space_end-q.ensures at c.ahead.ensures in
-    let n : c.ahead.result ≡ 3 → ⊥ = search rules in
-    let l : pipe_first kind (unindented kind (rest_of a.s.now a.p)) ≡ false = led_ahead c.requires.1.reads a.s.now a.p ∙ ne_eqb _ 3 (λ z. n (h ∙ z)) in
-    rw l
+pub returns : goal.returns
+returns c =
+    let t = c.args.text.now in
+    let ahead = rw c.space_end.ensures at c.ahead.ensures in
+    let led = led_ahead t.passes.reads t.bytes.now c.args.p ∙ ap (λ (k : ℕ). eqb k 3) (sym ahead) ∙ sym (same-numbers c.ahead.result Pipe) in
+    started c.args.p _ c.ne-seen.result c.from.result (c.ne-seen.ensures ∙ ap not (sym led)) c.from.ensures
