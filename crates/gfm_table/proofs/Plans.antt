@@ -1,14 +1,15 @@
 -- How many events heads and rows have, and what the questions make of them.
 -- Assumes nothing.
-use Prim.Native.Nat.{ℕ, suc, ◌+◌, ◌*◌, ◌≤◌}
+use Prim.Native.Nat.{ℕ, suc, ◌+◌, ◌*◌, ◌≤◌, ◌<◌}
 use mathlib.Core.Path.{◌≡◌, refl, ap, sym, ◌∙◌}
 use mathlib.Core.Bool.{Bool, true, false, cond, ◌&&◌, true≢false}
 use mathlib.Core.List.{List, [], ◌∷◌, ◌++◌, append-nil}
 use native.Mathlib.Omega.{arith}
-use borrow.Author.Tests.{eq-eqb, ne_eqb, eqb-true, eqb-false, ltb-true, ltb-false}
+use borrow.Author.Tests.{eq-eqb, ne_eqb, eqb-true, eqb-false, ltb-true, ltb-false, lt-ltb, le-ltb}
 use lib.Dec.{eqb, ltb}
 use lib.ListN.{length, length-append}
 use Rattle.tokenizer.specs.declared.event.Point.{Point}
+use Rattle.tokenizer.specs.declared.event.Event.{Event}
 use Rattle.tokenizer.specs.Bytes.{Reads}
 use Rattle.tokenizer.specs.Points.{past, next_line}
 use Rattle.tokenizer.specs.Events.{LineEnding, GfmTableHead, enter, leave}
@@ -97,6 +98,14 @@ module _ (s : List ℕ) (i : ℕ) where
   pub place_inside : place_refusal s i ≡ 0 → Inside s (point_at s i)
   place_inside e =
       record { short = place_short e; within = place-within e; narrow = omega arith; lined = omega (arith, ends-few i s); flat = refl }
+
+-- ## The slots
+
+pub slots-short : (n m : ℕ) (xs : List Event) → m ≡ length xs → n < m → slot_refusal n xs ≡ 9
+slots-short n m xs e l = rw (← e, lt-ltb n m l)
+
+pub slots-enough : (n m : ℕ) (xs : List Event) → m ≡ length xs → m ≤ n → slot_refusal n xs ≡ 0
+slots-enough n m xs e l = rw (← e, le-ltb n m l)
 
 -- ## Heads
 
