@@ -39,7 +39,8 @@ pub fn head(
         bytes: sheet,
         kinds: &kinds,
     };
-    match head_plan(&text, offset, code_indented, lazy || pierced, raw.len()) {
+    let stray = lazy || pierced;
+    match head_plan(&text, offset, code_indented, stray, raw.len()) {
         Ok(plan) => {
             fill(&text, plan.cursor, raw);
             Ok(plan.answer)
