@@ -1,6 +1,5 @@
 -- `values::value_end` meets its contract: whitespace, a colon, hyphens, a colon and whitespace, up to the end of the stretch.
 -- Assumes nothing.
-use mathlib.Core.Path.{ap, sym}
 use mathlib.Core.Logic.{⊎_elim}
 use native.Mathlib.Omega.{arith}
 use Rattle.tokenizer.specs.declared.kinds.Kind.TheVariants.{End, Pipe}
