@@ -13,7 +13,7 @@ use Rattle.tokenizer.specs.Bytes.{Reads}
 use Rattle.tokenizer.specs.Lines.{Line}
 use Rattle.tokenizer.specs.Moves.{line_at, after}
 use Rattle.gfm_table.specs.declared.heads.Opened.{Opened}
-use Rattle.std.specs.Prelude.{Result, Ok, Err}
+use Rattle.std.specs.Prelude.{Ok, Err}
 use Rattle.tokenizer.specs.declared.refusal.Refusal.{Refusal}
 use Rattle.tokenizer.specs.Refusals.{refusal_of}
 use Rattle.gfm_table.specs.Rows.{row_pieces}

@@ -14,8 +14,8 @@ use Rattle.std.specs.Prelude.{Some, None}
 use Rattle.tokenizer.specs.Bytes.{Reads}
 use Rattle.tokenizer.specs.Lines.{line_body, is_empty, indent, unindented, blank}
 use Rattle.tokenizer.specs.Moves.{ahead_of, run_of, after_run}
-use Rattle.tokenizer.proofs.Ahead.{Front, goes, ends, line_case, run_stops}
-use Rattle.tokenizer.proofs.Runs.{space_split, run_split, run_on}
+use Rattle.tokenizer.proofs.Ahead.{Front, goes, ends, line_case}
+use Rattle.tokenizer.proofs.Runs.{space_split, run_split}
 use Rattle.gfm_table.specs.Heads.{untailed, hyphens, is_value, untrailed, all_values, values, marked, permitted, is_delimiter_row}
 use Rattle.gfm_table.specs.Delimiters.{stretch, closes, colon, written, value_end, rest_count, row_count, value_count, delimiter_at, positive}
 use Rattle.gfm_table.specs.Machine.{pipe_first}
@@ -102,12 +102,6 @@ module _ {kind : ℕ → ℕ} (ok : Reads kind) where
 
     pub stretch-more : (k : ℕ) → k ≡ ahead_of kind (drop i s) → (k ≡ 2 → ⊥) → (k ≡ 3 → ⊥) → false ≡ is_empty (stretch kind (line_from s i))
     stretch-more k e g l = sym (ne_eqb k 3 l) ∙ ends-front ok s i k (goes ok s i k e g)
-
-    pub hyphens-stop : (ahead_of kind (drop i s) ≡ 5 → ⊥) → length (run_of kind 5 (line_from s i)) ≡ 0
-    hyphens-stop h = ap length (run_stops ok 5 (drop i s) h)
-
-    pub hyphens-more : (Front kind) s i 5 → length (run_of kind 5 (line_from s i)) ≡ 1 + length (run_of kind 5 (line_from s (i + 1)))
-    hyphens-more f = ap length (ap (run_of kind 5) f.line ∙ run_on kind 5 _ _ f.is) ∙ (omega arith)
 
   -- ## A value
 

@@ -24,8 +24,8 @@ unfolding column_past
 returns c =
     let t = c.args.text.now in
     elim c.else-on.branch [
-      else-on-via-then-on+else-eq w ↦
-        let e = indent_run (kind_in t.kinds.now) (line_body (drop c.args.at t.bytes.now)) ∙ run_stops t.passes.reads 1 (drop c.args.at t.bytes.now) (λ x. other_number _ Space w.eq.ensures w.if-eq.false (w.kind_at.ensures ∙ x)) in
-        rw (w.if-on.true, e)
-    | else-on-via-else-on w ↦ rw w.if-on.false
+      | else-on-via-then-on+else-eq w ↦
+          let e = indent_run (kind_in t.kinds.now) (line_body (drop c.args.at t.bytes.now)) ∙ run_stops t.passes.reads 1 (drop c.args.at t.bytes.now) (λ x. other_number _ Space w.eq.ensures w.if-eq.false (w.kind_at.ensures ∙ x)) in
+          rw (w.if-on.true, e)
+      | else-on-via-else-on w ↦ rw w.if-on.false
     ]

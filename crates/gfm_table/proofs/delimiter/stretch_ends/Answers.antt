@@ -15,9 +15,9 @@ returns-in-End c =
     let t = c.args.text.now in
     let i = c.args.p.index in
     ⊎_elim
-      (λ e. ends_two t.passes.reads (drop i t.bytes.now) (sym (ahead_is t.passes.reads t.bytes.now i c.ahead.result c.ahead.ensures End e)))
-      (λ e. ends-front t.passes.reads t.bytes.now i 3 (front_at t.passes.reads t.bytes.now i c.ahead.result c.ahead.ensures Pipe e (λ z. omega arith)))
-      c.in-End.is
+    (λ e. ends_two t.passes.reads (drop i t.bytes.now) (sym (ahead_is t.passes.reads t.bytes.now i c.ahead.result c.ahead.ensures End e)))
+    (λ e. ends-front t.passes.reads t.bytes.now i 3 (front_at t.passes.reads t.bytes.now i c.ahead.result c.ahead.ensures Pipe e (λ z. omega arith)))
+    c.in-End.is
 
 pub returns-in_default : goal.returns-in_default
 returns-in_default c =

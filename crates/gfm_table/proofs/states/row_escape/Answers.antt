@@ -16,9 +16,9 @@ returns-in-Pipe c =
     let t = c.args.text.now in
     let here = front_at t.passes.reads t.bytes.now c.args.at c.kind_at.result c.kind_at.ensures in
     ⊎_elim
-      (λ e. omega (arith, escape_one t.passes.reads _ _ 3 (here Pipe e (λ z. omega arith)) (omega arith) (omega arith)))
-      (λ e. omega (arith, escape_one t.passes.reads _ _ 4 (here Backslash e (λ z. omega arith)) (omega arith) (omega arith)))
-      c.in-Pipe.is
+    (λ e. omega (arith, escape_one t.passes.reads _ _ 3 (here Pipe e (λ z. omega arith)) (omega arith) (omega arith)))
+    (λ e. omega (arith, escape_one t.passes.reads _ _ 4 (here Backslash e (λ z. omega arith)) (omega arith) (omega arith)))
+    c.in-Pipe.is
 
 pub returns-in_default : goal.returns-in_default
 returns-in_default c =

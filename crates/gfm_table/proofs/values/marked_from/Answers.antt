@@ -1,11 +1,9 @@
 -- `values::marked_from` meets its contract: a colon or a divider is found, or the line ends.
 -- Assumes nothing.
-use mathlib.Core.Bool.{true, ◌||◌}
 use mathlib.Core.Logic.{⊎_elim}
-use mathlib.Core.Path.{◌≡◌, ap, sym, ◌∙◌}
+use mathlib.Core.Path.{ap, sym, ◌∙◌}
 use native.Mathlib.Omega.{arith}
 use borrow.Author.Tests.{ne_eqb}
-use lib.Dec.{eqb}
 use lib.ListN.{drop}
 use Rattle.tokenizer.specs.declared.kinds.Kind.TheVariants.{Pipe, Colon}
 use Rattle.tokenizer.specs.Bytes.{kind_number, kind_in}
@@ -20,9 +18,9 @@ returns-in-Pipe c =
     let t = c.args.text.now in
     let l = c.loop-i in
     ⊎_elim
-      (λ e. sym (marked-at t.passes.reads _ l.i 3 (front_at t.passes.reads t.bytes.now l.i c.kind_at.result c.kind_at.ensures Pipe e (λ z. omega arith))) ∙ l.invariant.1)
-      (λ e. sym (marked-at t.passes.reads _ l.i 6 (front_at t.passes.reads t.bytes.now l.i c.kind_at.result c.kind_at.ensures Colon e (λ z. omega arith))) ∙ l.invariant.1)
-      c.in-Pipe.is
+    (λ e. sym (marked-at t.passes.reads _ l.i 3 (front_at t.passes.reads t.bytes.now l.i c.kind_at.result c.kind_at.ensures Pipe e (λ z. omega arith))) ∙ l.invariant.1)
+    (λ e. sym (marked-at t.passes.reads _ l.i 6 (front_at t.passes.reads t.bytes.now l.i c.kind_at.result c.kind_at.ensures Colon e (λ z. omega arith))) ∙ l.invariant.1)
+    c.in-Pipe.is
 
 pub loop-i-preserved : goal.loop-i-preserved
 loop-i-preserved c =

@@ -1,6 +1,5 @@
 -- `values::value_end` meets its contract: whitespace, a colon, hyphens, a colon and whitespace, up to the end of the stretch.
 -- Assumes nothing.
-use mathlib.Core.Path.{ap, sym}
 use mathlib.Core.Logic.{⊎_elim}
 use native.Mathlib.Omega.{arith}
 use Rattle.tokenizer.specs.declared.kinds.Kind.TheVariants.{End, Pipe}
@@ -19,9 +18,9 @@ returns-in-End c =
     let e = c.space_stop-e.result in
     value_ends t.passes.reads t.bytes.now c.args.at _ _ _ c.space_stop.ensures c.colon_end-a.ensures c.run_stop-b.ensures _ _ c.colon_end.ensures c.space_stop-e.ensures c.if-a-b.false
     (⊎_elim
-      (λ z. stretch_over t.passes.reads t.bytes.now e 2 (ahead_is t.passes.reads t.bytes.now e c.kind_at.result c.kind_at.ensures End z) (omega arith) (omega arith))
-      (λ z. stretch_over t.passes.reads t.bytes.now e 3 (ahead_is t.passes.reads t.bytes.now e c.kind_at.result c.kind_at.ensures Pipe z) (omega arith) (omega arith))
-      c.in-End.is)
+    (λ z. stretch_over t.passes.reads t.bytes.now e 2 (ahead_is t.passes.reads t.bytes.now e c.kind_at.result c.kind_at.ensures End z) (omega arith) (omega arith))
+    (λ z. stretch_over t.passes.reads t.bytes.now e 3 (ahead_is t.passes.reads t.bytes.now e c.kind_at.result c.kind_at.ensures Pipe z) (omega arith) (omega arith))
+    c.in-End.is)
 
 pub returns-in_default : goal.returns-in_default
 returns-in_default c =

@@ -32,9 +32,9 @@ returns-then-n-eq0 c =
     let l = c.loop-e in
     let v = end_none t.passes.reads t.bytes.now l.i (sym c.in_default.is ∙ c.value_end.ensures) in
     elim c.then-n-eq0.branch [
-      then-n-eq0-via-then-n-eq0 w ↦ ap positive (count_zero t.passes.reads t.bytes.now l.i l.n _ refl v w.if-n-eq0.true ∙ l.invariant.2)
-    | then-n-eq0-via-else-n-eq0+then-ne-2 w ↦
-        ap positive (count_bad t.passes.reads t.bytes.now l.i l.n _ w.space_stop.ensures v (λ z. another _ End w.ne-else-n-eq0.ensures w.if-ne-2.true (w.kind_at-else-n-eq0.ensures ∙ z)) ∙ l.invariant.2)
+      | then-n-eq0-via-then-n-eq0 w ↦ ap positive (count_zero t.passes.reads t.bytes.now l.i l.n _ refl v w.if-n-eq0.true ∙ l.invariant.2)
+      | then-n-eq0-via-else-n-eq0+then-ne-2 w ↦
+          ap positive (count_bad t.passes.reads t.bytes.now l.i l.n _ w.space_stop.ensures v (λ z. another _ End w.ne-else-n-eq0.ensures w.if-ne-2.true (w.kind_at-else-n-eq0.ensures ∙ z)) ∙ l.invariant.2)
     ]
 
 pub returns : goal.returns
