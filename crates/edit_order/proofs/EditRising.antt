@@ -20,13 +20,14 @@ use Rattle.edit_order.specs.EditReach.{to, within, reached}
 use Rattle.edit_order.proofs.EditOrder.{here-below, rises-from}
 use Rattle.edit_order.proofs.EditSorted.{every_ext}
 use Rattle.edit_order.proofs.EditPassing.{own, own-cons, drops}
-use Rattle.edit_order.proofs.Bools.{both_true, and_false, and_true, or_true, and_again}
+use Rattle.std.proofs.lemmas.Bool.{and_parts}
+use Rattle.std.proofs.Math.Bool.{and-false, and-true, or-true, and_self_left}
 
 -- ## Clear of a stretch
 
 module _ (e : Edit) (p n : ℕ) where
   clear-low : e.at ≤ p → clear p n e ≡ true
-  clear-low h = rw (le-ltb p e.at h) (or_true (dropped e))
+  clear-low h = rw (le-ltb p e.at h) (or-true (dropped e))
 
   clear-high : dropped e ≡ false → p < e.at → leb (p + n) e.at ≡ clear p n e
   clear-high d h = rw (d, lt-ltb p e.at h) (go (leb (p + n) e.at) refl)
@@ -64,7 +65,7 @@ own-dropped : (q : ℕ) (e : Edit) → dropped e ≡ true → own q e ≡ 0
 own-dropped q e d = go (eqb e.at q)
   where
     go : (b : Bool) → cond b e.removes 0 ≡ 0
-    go true = eqb-true e.removes 0 (both_true (eqb e.removes 0) (eqb e.adds 0) d).0
+    go true = eqb-true e.removes 0 (and_parts (eqb e.removes 0) (eqb e.adds 0) d).0
     go false = refl
 
 -- two lists of edits with the same stretches ask the same of every edit
@@ -113,7 +114,7 @@ clear_behind p m r [] h a = refl
 clear_behind p m r (e ∷ es) h a = rw (own-clear, clear_behind p m e.at es (omega (arith, a.0)) a.1)
   where
     own-clear : clear p m e ≡ true
-    own-clear = rw (le-ltb e.at (p + m) (omega (arith, a.0)), and_false (ltb p e.at)) (or_true (dropped e))
+    own-clear = rw (le-ltb e.at (p + m) (omega (arith, a.0)), and-false (ltb p e.at)) (or-true (dropped e))
 
 removed-none : (p : ℕ) (es : List Edit) → here p es ≡ [] → removed_at es p ≡ 0
 unfolding removed
@@ -133,13 +134,13 @@ every-no f e es h = rw h
 
 module _ (len n : ℕ) where
   fine_unpooled : (all : List Edit) (e : Edit) → dropped e ≡ false → in_pool n e ≡ false → fine len n all e ≡ false
-  fine_unpooled all e d x = rw (d, x) (and_false (stretch len all e.at))
+  fine_unpooled all e d x = rw (d, x) (and-false (stretch len all e.at))
 
   fine-past : (all : List Edit) (e : Edit) → dropped e ≡ false → len < e.at + removed_at all e.at → fine len n all e ≡ false
   fine-past all e d h = rw (d, lt-leb (e.at + removed_at all e.at) len h)
 
   fine_pooled : (all : List Edit) (e : Edit) → dropped e ≡ false → in_pool n e ≡ true → fine len n all e ≡ stretch len all e.at
-  fine_pooled all e d x = rw (d, x) (and_true (stretch len all e.at))
+  fine_pooled all e d x = rw (d, x) (and-true (stretch len all e.at))
 
   fine-dropped : (all : List Edit) (e : Edit) → dropped e ≡ true → fine len n all e ≡ true
   fine-dropped all e d = rw d
@@ -226,7 +227,7 @@ module _ (len n : ℕ) where
   merged_live v e d = go (eqb v.adds 0) (eqb v.removes 0) refl refl d
     where
       go : (a b : Bool) → eqb v.adds 0 ≡ a → eqb v.removes 0 ≡ b → b && a ≡ false → eqb (v.removes + e.removes) 0 && a ≡ false
-      go false b x y z = and_false (eqb (v.removes + e.removes) 0)
+      go false b x y z = and-false (eqb (v.removes + e.removes) 0)
       go true false x y z = let some = eqb-false v.removes 0 y in rw (ne_eqb (v.removes + e.removes) 0 (omega arith))
       go true true x y z = let w : lib.Dec.T false = subst lib.Dec.T z tt in absurd w
 
@@ -248,7 +249,7 @@ module _ (len n : ℕ) where
               (arith, removed-cons q v (e ∷ es), removed-cons q e es, removed-cons q (merged v e) es, own_else q v o, own_else q e (λ y. o (sym s ∙ y)), own_else q (merged v e) o)
 
       clears : (k : ℕ) → every (clear q k) (v ∷ e ∷ es) ≡ every (clear q k) (merged v e ∷ es)
-      clears k = rw (dv, d, merged_live v e dv, s) (and_again (not (ltb q v.at && ltb v.at (q + k))) (every (clear q k) es))
+      clears k = rw (dv, d, merged_live v e dv, s) (and_self_left (not (ltb q v.at && ltb v.at (q + k))) (every (clear q k) es))
 
   goes_same : (v e : Edit) (es : List Edit) → dropped v ≡ false → in_pool n v ≡ true → dropped e ≡ false → e.at ≡ v.at
       → (v.at + (v.removes + e.removes) ≤ len → Meets (merged v e) es)
@@ -273,10 +274,10 @@ module _ (len n : ℕ) where
       go : (a b : Bool) → in_pool n e ≡ a → leb (v.at + v.removes + e.removes) len ≡ b
           → stretch len (w ∷ es) v.at && (fine len n (w ∷ es) e && every (fine len n (w ∷ es)) es)
           ≡ onward len n es (cond a (cond b (Some (to v.at (v.at + v.removes + e.removes))) None) None)
-      go false b x y = rw (fine_unpooled (w ∷ es) e d x) (and_false (stretch len (w ∷ es) v.at) ∙ sym (refused len n es))
+      go false b x y = rw (fine_unpooled (w ∷ es) e d x) (and-false (stretch len (w ∷ es) v.at) ∙ sym (refused len n es))
       go true b x y =
           rw (fine_pooled (w ∷ es) e d x, s)
-          (and_again (stretch len (w ∷ es) v.at) (every (fine len n (w ∷ es)) es) ∙ on b y)
+          (and_self_left (stretch len (w ∷ es) v.at) (every (fine len n (w ∷ es)) es) ∙ on b y)
         where
           on : (b : Bool) → leb (v.at + v.removes + e.removes) len ≡ b
               → stretch len (w ∷ es) v.at && every (fine len n (w ∷ es)) es ≡ onward len n es (cond b (Some (to v.at (v.at + v.removes + e.removes))) None)
@@ -349,15 +350,6 @@ pub record Climbing (es : List Edit) (i p : ℕ) : Type 0 where
   pub low : i ≤ length es
   pub so : Rises p (drop i es) → Rises 0 es
   pub back : Rises 0 es → Rises p (drop i es)
-
-pub climb_end : (es : List Edit) (i p : ℕ) → Climbing es i p → length es ≤ i → Rises 0 es
-climb_end es i p s h = s.so (rw (drop_of_length-le es {i = i} h) tt)
-
-pub climb_on : (es : List Edit) (i p : ℕ) → Climbing es i p → (e : Edit) → e ≡ get_or es i no_edit → i < length es → p ≤ e.at → Climbing es (i + 1) e.at
-climb_on es i p s e q h l = record { low = omega arith; so = λ r. s.so (rw (drops es i h e q) (l, r)); back = λ r. (rw (drops es i h e q) at (s.back r)).1 }
-
-pub climb_off : (es : List Edit) (i p : ℕ) → Climbing es i p → (e : Edit) → e ≡ get_or es i no_edit → i < length es → e.at < p → Rises 0 es → ⊥
-climb_off es i p s e q h l r = let b : Rises p (e ∷ drop (i + 1) es) = rw (drops es i h e q) at (s.back r) in omega (arith, b.0)
 
 pub record Going (len n : ℕ) (es : List Edit) (i : ℕ) (r : Option Extent) : Type 0 where
   pub low : i ≤ length es

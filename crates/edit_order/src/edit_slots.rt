@@ -1,4 +1,5 @@
 // The edit slots, five numbers an edit. Numbers behind the last whole group of five are neither read nor written.
+// They stay plain numbers, and `before` one of them: the C interface lends them so.
 ghost use Rattle.std.specs.Prelude.{◌≡◌, ◌<◌, ◌+◌, length, get_or, set};
 ghost use Rattle.edit_order.specs.EditSlots.{edits_of, holding};
 ghost use Rattle.edit_order.specs.EditFives.{no_edit, fives, store};

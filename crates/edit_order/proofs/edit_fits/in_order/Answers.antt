@@ -1,6 +1,6 @@
 -- `edit_fits::in_order` meets its contract.
 -- Assumes nothing.
-use Rattle.std.proofs.Common.{sym, ◌∙◌, arith}
+use Rattle.std.proofs.Common.{sym, arith}
 use Rattle.std.proofs.lemmas.List.{length-map}
 use Rattle.edit_order.specs.EditSlots.{edits_of}
 use Rattle.edit_order.proofs.EditRising.{going_on, going_end, going_refused, rising_fits, rises-map, map_it}
@@ -23,7 +23,7 @@ returns-in_default g c =
 pub loop-i-preserved : goal.loop-i-preserved
 loop-i-preserved g c =
     let es = edits_of c.args.edits.now in
-    let told = sym c.in-Some.is ∙ c.reach.ensures in
+    let told = rw c.in-Some.is at c.reach.ensures in
     going_on _ _ _ _ _ c.loop-i.invariant _
     (map_it g.gives es c.loop-i.i (omega arith) _ _ c.get.ensures (c.requires.1.1.1.0 _ _ c.anew.ensures))
     (omega (arith, length-map es g.gives)) _ told
