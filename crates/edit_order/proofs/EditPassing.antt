@@ -37,14 +37,6 @@ module _ (f : Edit → Bool) (es : List Edit) (i : ℕ) (s : Passing f es i) whe
 
 -- ## Sums
 
--- the sum so far, and that of the rest
-pub record Summing (f : Edit → ℕ) (es : List Edit) (start limit i sum : ℕ) : Type 0 where
-  pub low : i ≤ length es
-  pub small : sum ≤ limit
-  pub whole : sum + sum_by f (drop i es) ≡ start + sum_by f es
-
--- ## What is summed up
-
 -- the edits from i on
 pub removed_on : (es : List Edit) (i : ℕ) → i < length es → removed (drop i es) ≡ (get_or es i no_edit).removes + removed (drop (i + 1) es)
 unfolding removed
