@@ -8,7 +8,6 @@ ghost use Rattle.edit_map.specs.EditCursor.{to_come, Ready};
 
 use crate::edit_walk;
 use crate::edit_walk::Cursor;
-use edit_order::edit_count::Total;
 use edit_order::{edit_count, edit_fits, edit_sort};
 use tokenizer::event::Event;
 use tokenizer::slots;
@@ -47,8 +46,8 @@ fn settle(edits: &mut [usize], len: usize, pool: usize, slots: usize) -> Settled
     }
     let t = edit_count::count(edits, len, slots);
     match t {
-        Total::Over => refused(12),
-        Total::Is(n) => {
+        None => refused(12),
+        Some(n) => {
             edit_sort::sort(edits);
             Settled {
                 answer: Edited::Accepted(n),

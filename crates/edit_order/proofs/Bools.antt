@@ -27,10 +27,6 @@ pub or_true : (b : Bool) → b || true ≡ true
 or_true true = refl
 or_true false = refl
 
-pub and_again : (b c : Bool) → b && (b && c) ≡ b && c
-and_again true c = refl
-and_again false c = refl
-
 pub or_none : (b c : Bool) → b || c ≡ false → (b ≡ false) × (c ≡ false)
 or_none true c e = absurd (true≢false e)
 or_none false c e = (refl, e)

@@ -16,7 +16,7 @@ use Rattle.edit_order.specs.declared.edit_slots.Edit.{Edit}
 use Rattle.edit_order.specs.Edits.{here, removed, added, addition, removed_at, every, clear, dropped, stretch, fine, edits_fit, edited, edited_list}
 use Rattle.edit_order.specs.EditCount.{adding, result_count}
 use Rattle.edit_order.proofs.EditFitting.{fit-removed, fit-stretch, fine-stretch, fine_pool, stretch_in}
-use Rattle.edit_order.proofs.Bools.{both_true}
+use Rattle.std.proofs.lemmas.Bool.{and_parts}
 
 -- ## A sum over the edits, by position
 
@@ -66,11 +66,11 @@ Light w = (e : Edit) → dropped e ≡ true → w e ≡ 0
 
 light_removes : Light (λ e. e.removes)
 unfolding Light
-light_removes e t = eqb-true e.removes 0 (both_true (eqb e.removes 0) (eqb e.adds 0) t).0
+light_removes e t = eqb-true e.removes 0 (and_parts (eqb e.removes 0) (eqb e.adds 0) t).0
 
 light_adds : (pool : List Event) → Light (λ e. length (addition pool e))
 unfolding Light
-light_adds pool e t = rw (length-take, eqb-true e.adds 0 (both_true (eqb e.removes 0) (eqb e.adds 0) t).1) (omega arith)
+light_adds pool e t = rw (length-take, eqb-true e.adds 0 (and_parts (eqb e.removes 0) (eqb e.adds 0) t).1) (omega arith)
 
 module _ (w : Edit → ℕ) (light : Light w) where
   -- strictly inside what is removed
@@ -78,28 +78,28 @@ module _ (w : Edit → ℕ) (light : Light w) where
   unfolding sum here every Light
   bare-inside p m q [] t a b = refl
   bare-inside p m q (e ∷ es) t a b =
-      go (eqb e.at q) (dropped e) refl refl (bare-inside p m q es (both_true (clear p m e) (every (clear p m) es) t).1 a b)
+      go (eqb e.at q) (dropped e) refl refl (bare-inside p m q es (and_parts (clear p m e) (every (clear p m) es) t).1 a b)
     where
       go : (x y : Bool) → eqb e.at q ≡ x → dropped e ≡ y → sum w (here q es) ≡ 0 → sum w (cond x (e ∷ here q es) (here q es)) ≡ 0
       go false y u v ih = ih
       go true true u v ih = omega (arith, light e v)
       go true false u v ih =
           absurd
-          (true_false (clear p m e) (both_true (clear p m e) (every (clear p m) es) t).0
+          (true_false (clear p m e) (and_parts (clear p m e) (every (clear p m) es) t).0
           (rw (v, lt-ltb p e.at (omega (arith, eqb-true e.at q u)), lt-ltb e.at (p + m) (omega (arith, eqb-true e.at q u)))))
 
   -- behind the list
   bare-behind : (len n : ℕ) (es xs : List Edit) → every (fine len n es) xs ≡ true → sum w (from (len + 1) xs) ≡ 0
   unfolding sum from every Light
   bare-behind len n es [] t = refl
-  bare-behind len n es (e ∷ xs) t = go (leb (len + 1) e.at) (dropped e) refl refl (bare-behind len n es xs (both_true (fine len n es e) (every (fine len n es) xs) t).1)
+  bare-behind len n es (e ∷ xs) t = go (leb (len + 1) e.at) (dropped e) refl refl (bare-behind len n es xs (and_parts (fine len n es e) (every (fine len n es) xs) t).1)
     where
       go : (x y : Bool) → leb (len + 1) e.at ≡ x → dropped e ≡ y → sum w (from (len + 1) xs) ≡ 0 → sum w (cond x (e ∷ from (len + 1) xs) (from (len + 1) xs)) ≡ 0
       go false y u v ih = ih
       go true true u v ih = omega (arith, light e v)
       go true false u v ih =
           absurd
-          (omega (arith, stretch_in len n es e.at (fine-stretch len n es e v (both_true (fine len n es e) (every (fine len n es) xs) t).0), leb-true (len + 1) e.at u))
+          (omega (arith, stretch_in len n es e.at (fine-stretch len n es e v (and_parts (fine len n es e) (every (fine len n es) xs) t).0), leb-true (len + 1) e.at u))
 
 -- ## The result, position by position
 
@@ -142,7 +142,7 @@ module _ (len n : ℕ) (es : List Edit) (fit : edits_fit len n es ≡ true) (poo
   bare-stretch : (p q : ℕ) → stretch len es p ≡ true → p < q → q < p + removed_at es p → Bare q
   unfolding Bare adds-here
   bare-stretch p q s a b =
-      let t = (both_true (leb (p + removed_at es p) len) (every (clear p (removed_at es p)) es) s).1 in (
+      let t = (and_parts (leb (p + removed_at es p) len) (every (clear p (removed_at es p)) es) s).1 in (
         removed-sum (here q es) ∙ bare-inside (λ e. e.removes) light_removes p (removed_at es p) q es t a b,
         bare-inside (λ e. length (addition pool e)) (light_adds pool) p (removed_at es p) q es t a b,
       )
@@ -224,9 +224,9 @@ sum-adds : (len n : ℕ) (es xs : List Edit) (pool : List Event) → length pool
 unfolding sum adding every
 sum-adds len n es [] pool l t = refl
 sum-adds len n es (e ∷ xs) pool l t =
-    let f = (both_true (fine len n es e) (every (fine len n es) xs) t).0 in
+    let f = (and_parts (fine len n es e) (every (fine len n es) xs) t).0 in
     omega
-    (arith, sum-adds len n es xs pool l (both_true (fine len n es e) (every (fine len n es) xs) t).1, length-addition pool e (λ h. rw l (fine_pool len n es e h f)))
+    (arith, sum-adds len n es xs pool l (and_parts (fine len n es e) (every (fine len n es) xs) t).1, length-addition pool e (λ h. rw l (fine_pool len n es e h f)))
 
 module _ (len n : ℕ) (es : List Edit) (fit : edits_fit len n es ≡ true) where
   -- what is removed was there

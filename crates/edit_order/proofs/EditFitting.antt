@@ -13,7 +13,8 @@ use lib.ListN.{length, get_or, drop}
 use Rattle.edit_order.specs.declared.edit_slots.Edit.{Edit}
 use Rattle.edit_order.specs.EditFives.{no_edit}
 use Rattle.edit_order.specs.Edits.{here, removed, removed_at, every, dropped, stretch, in_pool, fine, edits_fit}
-use Rattle.edit_order.proofs.Bools.{both_true, and_false}
+use Rattle.std.proofs.lemmas.Bool.{and_parts}
+use Rattle.std.proofs.Math.Bool.{and-false}
 
 -- ## Tests
 
@@ -23,19 +24,19 @@ or_right a b e t = rw e at t
 pub every-at : (f : Edit → Bool) (es : List Edit) (i : ℕ) → i < length es → every f es ≡ true → f (get_or es i no_edit) ≡ true
 unfolding every
 every-at f [] i h t = absurd (not-suc-le-zero h)
-every-at f (e ∷ es) zero h t = (both_true (f e) (every f es) t).0
-every-at f (e ∷ es) (suc i) h t = every-at f es i (le_of_suc-le-suc h) (both_true (f e) (every f es) t).1
+every-at f (e ∷ es) zero h t = (and_parts (f e) (every f es) t).0
+every-at f (e ∷ es) (suc i) h t = every-at f es i (le_of_suc-le-suc h) (and_parts (f e) (every f es) t).1
 
 -- ## Edits that fit
 
 module _ (len n : ℕ) (es : List Edit) where
   pub fine-stretch : (e : Edit) → dropped e ≡ false → fine len n es e ≡ true → stretch len es e.at ≡ true
-  fine-stretch e d t = (both_true (stretch len es e.at) (in_pool n e) (or_right (dropped e) _ d t)).0
+  fine-stretch e d t = (and_parts (stretch len es e.at) (in_pool n e) (or_right (dropped e) _ d t)).0
 
   pub fine_pool : (e : Edit) → 0 < e.adds → fine len n es e ≡ true → e.from + e.adds ≤ n
   fine_pool e h t =
       let z : eqb e.adds 0 ≡ false = ne_eqb e.adds 0 (omega arith) in
-      let s = (both_true (stretch len es e.at) (in_pool n e) (or_right (dropped e) _ (rw z (and_false (eqb e.removes 0))) t)).1 in
+      let s = (and_parts (stretch len es e.at) (in_pool n e) (or_right (dropped e) _ (rw z (and-false (eqb e.removes 0))) t)).1 in
       leb-true (e.from + e.adds) n (or_right (eqb e.adds 0) _ z s)
 
   -- the added records are in the pool
@@ -46,20 +47,20 @@ module _ (len n : ℕ) (es : List Edit) where
   some-removed : (p : ℕ) (xs : List Edit) → every (fine len n es) xs ≡ true → (removed (here p xs) ≡ 0) ⊎ (stretch len es p ≡ true)
   unfolding every here removed
   some-removed p [] t = inl refl
-  some-removed p (e ∷ xs) t = go (eqb e.at p) (eqb e.removes 0) refl refl (some-removed p xs (both_true (fine len n es e) (every (fine len n es) xs) t).1)
+  some-removed p (e ∷ xs) t = go (eqb e.at p) (eqb e.removes 0) refl refl (some-removed p xs (and_parts (fine len n es e) (every (fine len n es) xs) t).1)
     where
       go : (a b : Bool) → eqb e.at p ≡ a → eqb e.removes 0 ≡ b → (removed (here p xs) ≡ 0) ⊎ (stretch len es p ≡ true)
           → (removed (cond a (e ∷ here p xs) (here p xs)) ≡ 0) ⊎ (stretch len es p ≡ true)
       go false b q z ih = ih
       go true true q z ih = ⊎_elim (λ x. inl (omega (arith, eqb-true e.removes 0 z))) (λ x. inr x) ih
       go true false q z ih =
-          inr (rw (eqb-true e.at p q) at (fine-stretch e (rw z) (both_true (fine len n es e) (every (fine len n es) xs) t).0))
+          inr (rw (eqb-true e.at p q) at (fine-stretch e (rw z) (and_parts (fine len n es e) (every (fine len n es) xs) t).0))
 
   pub fit-stretch : edits_fit len n es ≡ true → (p : ℕ) → (removed_at es p ≡ 0) ⊎ (stretch len es p ≡ true)
   fit-stretch t p = some-removed p es t
 
   pub stretch_in : (p : ℕ) → stretch len es p ≡ true → p + removed_at es p ≤ len
-  stretch_in p s = leb-true (p + removed_at es p) len (both_true (leb (p + removed_at es p) len) _ s).0
+  stretch_in p s = leb-true (p + removed_at es p) len (and_parts (leb (p + removed_at es p) len) _ s).0
 
   pub fit-removed : edits_fit len n es ≡ true → (p : ℕ) → p ≤ len → p + removed_at es p ≤ len
   fit-removed t p h = ⊎_elim (λ z. omega (arith, z)) (stretch_in p) (fit-stretch t p)

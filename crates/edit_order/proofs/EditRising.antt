@@ -2,51 +2,58 @@
 -- Assumes nothing.
 use Prim.Native.Nat.{ℕ, ◌+◌, ◌≤◌, ◌<◌}
 use mathlib.Core.Path.{◌≡◌, refl, ap, ap₂, sym, ◌∙◌, subst}
-use mathlib.Core.List.{List, [], ◌∷◌}
+use mathlib.Core.List.{List, [], ◌∷◌, map}
 use mathlib.Core.Bool.{Bool, true, false, cond, ◌&&◌, not}
+use Rattle.std.proofs.lemmas.List.{get_or-map}
+use Rattle.std.specs.Prelude.{Option, Some, None}
 use native.Mathlib.Omega.{arith}
 use native.Mathlib.Nat.{le_refl, le_trans, zero-add}
 use lib.Dec.{eqb, leb, ltb}
-use borrow.Author.Tests.{eqb-true, eqb-false, leb-true, leb-false, eq-eqb, ne_eqb, le-leb, lt-leb, le-ltb}
+use borrow.Author.Tests.{eqb-true, eqb-false, leb-true, leb-false, eq-eqb, ne_eqb, le-leb, lt-leb, lt-ltb, le-ltb}
 use lib.ListN.{length, get_or, drop, drop_of_length-le}
 use Rattle.edit_order.specs.declared.edit_slots.Edit.{Edit}
-use Rattle.edit_order.specs.declared.edit_fits.Reached.{Reached}
-use Rattle.edit_order.specs.declared.edit_fits.Reached.TheVariants.{To, Refused}
+use Rattle.edit_order.specs.declared.edit_fits.Extent.{Extent}
 use Rattle.edit_order.specs.Edits.{here, removed, removed_at, every, clear, in_pool, stretch, dropped, fine, edits_fit}
 use Rattle.edit_order.specs.EditOrder.{Rises}
 use Rattle.edit_order.specs.EditFives.{no_edit}
-use Rattle.edit_order.specs.EditReach.{within, reached}
+use Rattle.edit_order.specs.EditReach.{to, within, reached}
 use Rattle.edit_order.proofs.EditOrder.{here-below, rises-from}
 use Rattle.edit_order.proofs.EditSorted.{every_ext}
-use Rattle.edit_order.proofs.EditSumming.{drops}
-use Rattle.edit_order.proofs.EditTesting.{clear-low, clear-high}
-use Rattle.edit_order.proofs.Bools.{both_true, and_false, and_true, or_true, and_again}
+use Rattle.edit_order.proofs.EditPassing.{own, own-cons, drops}
+use Rattle.std.proofs.lemmas.Bool.{and_parts}
+use Rattle.std.proofs.Math.Bool.{and-false, and-true, or-true, and_self_left}
+
+-- ## Clear of a stretch
+
+module _ (e : Edit) (p n : ℕ) where
+  clear-low : e.at ≤ p → clear p n e ≡ true
+  clear-low h = rw (le-ltb p e.at h) (or-true (dropped e))
+
+  clear-high : dropped e ≡ false → p < e.at → leb (p + n) e.at ≡ clear p n e
+  clear-high d h = rw (d, lt-ltb p e.at h) (go (leb (p + n) e.at) refl)
+    where
+      go : (t : Bool) → leb (p + n) e.at ≡ t → t ≡ not (ltb e.at (p + n))
+      go true x = sym (rw (le-ltb e.at (p + n) (leb-true (p + n) e.at x)))
+      go false x = sym (rw (lt-ltb e.at (p + n) (leb-false (p + n) e.at x)))
+
+-- ## Edit by edit
 
 -- the edits behind: whether all of them fit
-unfoldable pub onward : ℕ → ℕ → List Edit → Reached → Bool
-onward len n [] Refused = false
-onward len n [] (To p stop) = true
-onward len n (e ∷ es) Refused = false
-onward len n (e ∷ es) (To p stop) = onward len n es (reached len n p stop e)
+unfoldable pub onward : ℕ → ℕ → List Edit → Option Extent → Bool
+onward len n [] None = false
+onward len n [] (Some r) = true
+onward len n (e ∷ es) None = false
+onward len n (e ∷ es) (Some r) = onward len n es (reached len n r e)
 
-refused : (len n : ℕ) (es : List Edit) → onward len n es Refused ≡ false
+refused : (len n : ℕ) (es : List Edit) → onward len n es None ≡ false
 unfolding onward
 refused len n [] = refl
 refused len n (e ∷ es) = refl
 
 -- ## What an edit in front changes
 
--- what an edit removes at q
-abbrev own : ℕ → Edit → ℕ
-own q e = cond (eqb e.at q) e.removes 0
-
 removed-cons : (q : ℕ) (e : Edit) (es : List Edit) → removed_at (e ∷ es) q ≡ own q e + removed_at es q
-unfolding here removed
-removed-cons q e es = go (eqb e.at q)
-  where
-    go : (b : Bool) → removed (cond b (e ∷ here q es) (here q es)) ≡ cond b e.removes 0 + removed (here q es)
-    go true = refl
-    go false = omega arith
+removed-cons q e es = own-cons q e es
 
 own-here : (q : ℕ) (e : Edit) → e.at ≡ q → own q e ≡ e.removes
 own-here q e h = rw (eq-eqb e.at q h)
@@ -58,7 +65,7 @@ own-dropped : (q : ℕ) (e : Edit) → dropped e ≡ true → own q e ≡ 0
 own-dropped q e d = go (eqb e.at q)
   where
     go : (b : Bool) → cond b e.removes 0 ≡ 0
-    go true = eqb-true e.removes 0 (both_true (eqb e.removes 0) (eqb e.adds 0) d).0
+    go true = eqb-true e.removes 0 (and_parts (eqb e.removes 0) (eqb e.adds 0) d).0
     go false = refl
 
 -- two lists of edits with the same stretches ask the same of every edit
@@ -107,7 +114,7 @@ clear_behind p m r [] h a = refl
 clear_behind p m r (e ∷ es) h a = rw (own-clear, clear_behind p m e.at es (omega (arith, a.0)) a.1)
   where
     own-clear : clear p m e ≡ true
-    own-clear = rw (le-ltb e.at (p + m) (omega (arith, a.0)), and_false (ltb p e.at)) (or_true (dropped e))
+    own-clear = rw (le-ltb e.at (p + m) (omega (arith, a.0)), and-false (ltb p e.at)) (or-true (dropped e))
 
 removed-none : (p : ℕ) (es : List Edit) → here p es ≡ [] → removed_at es p ≡ 0
 unfolding removed
@@ -127,28 +134,28 @@ every-no f e es h = rw h
 
 module _ (len n : ℕ) where
   fine_unpooled : (all : List Edit) (e : Edit) → dropped e ≡ false → in_pool n e ≡ false → fine len n all e ≡ false
-  fine_unpooled all e d x = rw (d, x) (and_false (stretch len all e.at))
+  fine_unpooled all e d x = rw (d, x) (and-false (stretch len all e.at))
 
   fine-past : (all : List Edit) (e : Edit) → dropped e ≡ false → len < e.at + removed_at all e.at → fine len n all e ≡ false
   fine-past all e d h = rw (d, lt-leb (e.at + removed_at all e.at) len h)
 
   fine_pooled : (all : List Edit) (e : Edit) → dropped e ≡ false → in_pool n e ≡ true → fine len n all e ≡ stretch len all e.at
-  fine_pooled all e d x = rw (d, x) (and_true (stretch len all e.at))
+  fine_pooled all e d x = rw (d, x) (and-true (stretch len all e.at))
 
   fine-dropped : (all : List Edit) (e : Edit) → dropped e ≡ true → fine len n all e ≡ true
   fine-dropped all e d = rw d
 
-  pub reached-dropped : (p stop : ℕ) (e : Edit) → dropped e ≡ true → reached len n p stop e ≡ To p stop
+  pub reached-dropped : (p stop : ℕ) (e : Edit) → dropped e ≡ true → reached len n (to p stop) e ≡ Some (to p stop)
   reached-dropped p stop e d = rw d
 
-  reached-same : (p stop : ℕ) (e : Edit) → dropped e ≡ false → e.at ≡ p → reached len n p stop e ≡ cond (in_pool n e) (within len p (stop + e.removes)) Refused
+  reached-same : (p stop : ℕ) (e : Edit) → dropped e ≡ false → e.at ≡ p → reached len n (to p stop) e ≡ cond (in_pool n e) (within len p (stop + e.removes)) None
   reached-same p stop e d h = rw (d, eq-eqb e.at p h)
 
   reached-later : (p stop : ℕ) (e : Edit) → dropped e ≡ false → (e.at ≡ p → ⊥)
-      → reached len n p stop e ≡ cond (in_pool n e) (cond (leb stop e.at) (within len e.at (e.at + e.removes)) Refused) Refused
+      → reached len n (to p stop) e ≡ cond (in_pool n e) (cond (leb stop e.at) (within len e.at (e.at + e.removes)) None) None
   reached-later p stop e d h = rw (d, ne_eqb e.at p h)
 
-  cond_onward : (b : Bool) (es : List Edit) (x : Reached) → cond b (onward len n es x) false ≡ onward len n es (cond b x Refused)
+  cond_onward : (b : Bool) (es : List Edit) (x : Option Extent) → cond b (onward len n es x) false ≡ onward len n es (cond b x None)
   cond_onward true es x = refl
   cond_onward false es x = sym (refused len n es)
 
@@ -157,7 +164,7 @@ module _ (len n : ℕ) where
 
   -- what is shown of an edit w and of the edits es behind it
   Meets : Edit → List Edit → Type 0
-  Meets w es = every (fine len n (w ∷ es)) (w ∷ es) ≡ onward len n es (To w.at (w.at + w.removes))
+  Meets w es = every (fine len n (w ∷ es)) (w ∷ es) ≡ onward len n es (Some (to w.at (w.at + w.removes)))
 
   -- an edit that is not dropped begins a group
   begins : (e : Edit) (es : List Edit) → dropped e ≡ false → (in_pool n e ≡ true → e.at + e.removes ≤ len → Meets e es)
@@ -169,7 +176,7 @@ module _ (len n : ℕ) where
       past = omega (arith, removed-cons e.at e es, own-here e.at e refl)
 
       go : (a b : Bool) → in_pool n e ≡ a → leb (e.at + e.removes) len ≡ b
-          → every (fine len n (e ∷ es)) (e ∷ es) ≡ cond a (onward len n es (cond b (To e.at (e.at + e.removes)) Refused)) false
+          → every (fine len n (e ∷ es)) (e ∷ es) ≡ cond a (onward len n es (cond b (Some (to e.at (e.at + e.removes))) None)) false
       go false b x y = every-no (fine len n (e ∷ es)) e es (fine_unpooled (e ∷ es) e d x)
       go true true x y = ih x (leb-true (e.at + e.removes) len y)
       go true false x y =
@@ -195,7 +202,7 @@ module _ (len n : ℕ) where
 
   goes_later : (v e : Edit) (es : List Edit) → dropped v ≡ false → in_pool n v ≡ true → v.at + v.removes ≤ len → dropped e ≡ false → v.at < e.at → Rises e.at es
       → (in_pool n e ≡ true → e.at + e.removes ≤ len → Meets e es)
-      → every (fine len n (v ∷ e ∷ es)) (v ∷ e ∷ es) ≡ onward len n es (reached len n v.at (v.at + v.removes) e)
+      → every (fine len n (v ∷ e ∷ es)) (v ∷ e ∷ es) ≡ onward len n es (reached len n (to v.at (v.at + v.removes)) e)
   goes_later v e es dv pv h d l r ih =
       every-cons (fine len n (v ∷ e ∷ es)) v (e ∷ es)
       ∙ ap₂ ◌&&◌
@@ -205,7 +212,7 @@ module _ (len n : ℕ) where
       ∙ ap (onward len n es) (sym (reached-later v.at (v.at + v.removes) e d (omega arith)))
     where
       go : (a b : Bool) → a && cond b (onward len n es (within len e.at (e.at + e.removes))) false
-          ≡ onward len n es (cond b (cond a (within len e.at (e.at + e.removes)) Refused) Refused)
+          ≡ onward len n es (cond b (cond a (within len e.at (e.at + e.removes)) None) None)
       go true true = refl
       go true false = sym (refused len n es)
       go false true = sym (refused len n es)
@@ -220,7 +227,7 @@ module _ (len n : ℕ) where
   merged_live v e d = go (eqb v.adds 0) (eqb v.removes 0) refl refl d
     where
       go : (a b : Bool) → eqb v.adds 0 ≡ a → eqb v.removes 0 ≡ b → b && a ≡ false → eqb (v.removes + e.removes) 0 && a ≡ false
-      go false b x y z = and_false (eqb (v.removes + e.removes) 0)
+      go false b x y z = and-false (eqb (v.removes + e.removes) 0)
       go true false x y z = let some = eqb-false v.removes 0 y in rw (ne_eqb (v.removes + e.removes) 0 (omega arith))
       go true true x y z = let w : lib.Dec.T false = subst lib.Dec.T z tt in absurd w
 
@@ -242,11 +249,11 @@ module _ (len n : ℕ) where
               (arith, removed-cons q v (e ∷ es), removed-cons q e es, removed-cons q (merged v e) es, own_else q v o, own_else q e (λ y. o (sym s ∙ y)), own_else q (merged v e) o)
 
       clears : (k : ℕ) → every (clear q k) (v ∷ e ∷ es) ≡ every (clear q k) (merged v e ∷ es)
-      clears k = rw (dv, d, merged_live v e dv, s) (and_again (not (ltb q v.at && ltb v.at (q + k))) (every (clear q k) es))
+      clears k = rw (dv, d, merged_live v e dv, s) (and_self_left (not (ltb q v.at && ltb v.at (q + k))) (every (clear q k) es))
 
   goes_same : (v e : Edit) (es : List Edit) → dropped v ≡ false → in_pool n v ≡ true → dropped e ≡ false → e.at ≡ v.at
       → (v.at + (v.removes + e.removes) ≤ len → Meets (merged v e) es)
-      → every (fine len n (v ∷ e ∷ es)) (v ∷ e ∷ es) ≡ onward len n es (reached len n v.at (v.at + v.removes) e)
+      → every (fine len n (v ∷ e ∷ es)) (v ∷ e ∷ es) ≡ onward len n es (reached len n (to v.at (v.at + v.removes)) e)
   unfolding Meets merged
   goes_same v e es dv pv d s ih =
       every-same len n (v ∷ e ∷ es) (w ∷ es) (v ∷ e ∷ es) (merged_stretch v e es dv d s)
@@ -266,21 +273,21 @@ module _ (len n : ℕ) where
 
       go : (a b : Bool) → in_pool n e ≡ a → leb (v.at + v.removes + e.removes) len ≡ b
           → stretch len (w ∷ es) v.at && (fine len n (w ∷ es) e && every (fine len n (w ∷ es)) es)
-          ≡ onward len n es (cond a (cond b (To v.at (v.at + v.removes + e.removes)) Refused) Refused)
-      go false b x y = rw (fine_unpooled (w ∷ es) e d x) (and_false (stretch len (w ∷ es) v.at) ∙ sym (refused len n es))
+          ≡ onward len n es (cond a (cond b (Some (to v.at (v.at + v.removes + e.removes))) None) None)
+      go false b x y = rw (fine_unpooled (w ∷ es) e d x) (and-false (stretch len (w ∷ es) v.at) ∙ sym (refused len n es))
       go true b x y =
           rw (fine_pooled (w ∷ es) e d x, s)
-          (and_again (stretch len (w ∷ es) v.at) (every (fine len n (w ∷ es)) es) ∙ on b y)
+          (and_self_left (stretch len (w ∷ es) v.at) (every (fine len n (w ∷ es)) es) ∙ on b y)
         where
           on : (b : Bool) → leb (v.at + v.removes + e.removes) len ≡ b
-              → stretch len (w ∷ es) v.at && every (fine len n (w ∷ es)) es ≡ onward len n es (cond b (To v.at (v.at + v.removes + e.removes)) Refused)
+              → stretch len (w ∷ es) v.at && every (fine len n (w ∷ es)) es ≡ onward len n es (cond b (Some (to v.at (v.at + v.removes + e.removes))) None)
           on true z = both ∙ ih (rw far at (leb-true (v.at + v.removes + e.removes) len z)) ∙ rw far
           on false z =
               rw (stretch-past (w ∷ es) v.at (omega (arith, leb-false (v.at + v.removes + e.removes) len z, removed-cons v.at w es, own-here v.at w refl)))
               (sym (refused len n es))
 
   -- a dropped edit
-  goes_dropped : (v e : Edit) (es : List Edit) → dropped e ≡ true → Meets v es → every (fine len n (v ∷ e ∷ es)) (v ∷ e ∷ es) ≡ onward len n es (reached len n v.at (v.at + v.removes) e)
+  goes_dropped : (v e : Edit) (es : List Edit) → dropped e ≡ true → Meets v es → every (fine len n (v ∷ e ∷ es)) (v ∷ e ∷ es) ≡ onward len n es (reached len n (to v.at (v.at + v.removes)) e)
   unfolding Meets
   goes_dropped v e es d ih =
       every-same len n (v ∷ e ∷ es) (v ∷ es) (v ∷ e ∷ es) under
@@ -316,13 +323,13 @@ module _ (len n : ℕ) where
           let s = eqb-false e.at v.at x in
           goes_later v e es dv pv h d (omega (arith, r.0)) r.1 (λ p l. ih e d p l r.1)
 
-  first : (e : Edit) (es : List Edit) → Rises e.at es → edits_fit len n es ≡ onward len n es (To 0 0) → edits_fit len n (e ∷ es) ≡ onward len n es (reached len n 0 0 e)
+  first : (e : Edit) (es : List Edit) → Rises e.at es → edits_fit len n es ≡ onward len n es (Some (to 0 0)) → edits_fit len n (e ∷ es) ≡ onward len n es (reached len n (to 0 0) e)
   first e es r ih = go (dropped e) (eqb e.at 0) refl refl
     where
-      begun : dropped e ≡ false → edits_fit len n (e ∷ es) ≡ onward len n es (cond (in_pool n e) (within len e.at (e.at + e.removes)) Refused)
+      begun : dropped e ≡ false → edits_fit len n (e ∷ es) ≡ onward len n es (cond (in_pool n e) (within len e.at (e.at + e.removes)) None)
       begun d = begins e es d (λ p l. onward_live es e d p l r) ∙ cond_onward (in_pool n e) es (within len e.at (e.at + e.removes))
 
-      go : (a b : Bool) → dropped e ≡ a → eqb e.at 0 ≡ b → edits_fit len n (e ∷ es) ≡ onward len n es (reached len n 0 0 e)
+      go : (a b : Bool) → dropped e ≡ a → eqb e.at 0 ≡ b → edits_fit len n (e ∷ es) ≡ onward len n es (reached len n (to 0 0) e)
       go true b d x =
           every-same len n (e ∷ es) es (e ∷ es) (λ q. stretch-dropped len q e es d)
           ∙ every_skip (fine len n es) e es (fine-dropped es e d)
@@ -332,25 +339,10 @@ module _ (len n : ℕ) where
       go false false d x =
           begun d ∙ ap (onward len n es) (sym (reached-later 0 0 e d (eqb-false e.at 0 x) ∙ rw (le-leb 0 e.at (omega arith))))
 
-  pub rising_fits : (es : List Edit) → Rises 0 es → edits_fit len n es ≡ onward len n es (To 0 0)
+  pub rising_fits : (es : List Edit) → Rises 0 es → edits_fit len n es ≡ onward len n es (Some (to 0 0))
   unfolding every onward
   rising_fits [] r = refl
   rising_fits (e ∷ es) r = first e es r.1 (rising_fits es (rises-from es (omega arith) r.1))
-
--- ## The cases of `reach`
-
-module _ (len n p stop : ℕ) (e : Edit) where
-  pub reach_unpooled : dropped e ≡ false → in_pool n e ≡ false → reached len n p stop e ≡ Refused
-  reach_unpooled d x = rw (d, x)
-
-  pub reach_same : dropped e ≡ false → in_pool n e ≡ true → e.at ≡ p → reached len n p stop e ≡ within len p (stop + e.removes)
-  reach_same d x h = rw (d, x, eq-eqb e.at p h)
-
-  pub reach_inside : dropped e ≡ false → in_pool n e ≡ true → (e.at ≡ p → ⊥) → e.at < stop → reached len n p stop e ≡ Refused
-  reach_inside d x h l = rw (d, x, ne_eqb e.at p h, lt-leb stop e.at l)
-
-  pub reach_later : dropped e ≡ false → in_pool n e ≡ true → (e.at ≡ p → ⊥) → stop ≤ e.at → reached len n p stop e ≡ within len e.at (e.at + e.removes)
-  reach_later d x h l = rw (d, x, ne_eqb e.at p h, le-leb stop e.at l)
 
 -- ## The loops of `rising` and `in_order`
 
@@ -359,27 +351,26 @@ pub record Climbing (es : List Edit) (i p : ℕ) : Type 0 where
   pub so : Rises p (drop i es) → Rises 0 es
   pub back : Rises 0 es → Rises p (drop i es)
 
-pub climb_end : (es : List Edit) (i p : ℕ) → Climbing es i p → length es ≤ i → Rises 0 es
-climb_end es i p s h = s.so (rw (drop_of_length-le es {i = i} h) tt)
-
-pub climb_on : (es : List Edit) (i p : ℕ) → Climbing es i p → (e : Edit) → e ≡ get_or es i no_edit → i < length es → p ≤ e.at → Climbing es (i + 1) e.at
-climb_on es i p s e q h l = record { low = omega arith; so = λ r. s.so (rw (drops es i h e q) (l, r)); back = λ r. (rw (drops es i h e q) at (s.back r)).1 }
-
-pub climb_off : (es : List Edit) (i p : ℕ) → Climbing es i p → (e : Edit) → e ≡ get_or es i no_edit → i < length es → e.at < p → Rises 0 es → ⊥
-climb_off es i p s e q h l r = let b : Rises p (e ∷ drop (i + 1) es) = rw (drops es i h e q) at (s.back r) in omega (arith, b.0)
-
-pub record Going (len n : ℕ) (es : List Edit) (i : ℕ) (r : Reached) : Type 0 where
+pub record Going (len n : ℕ) (es : List Edit) (i : ℕ) (r : Option Extent) : Type 0 where
   pub low : i ≤ length es
   pub same : edits_fit len n es ≡ onward len n (drop i es) r
 
 module _ (len n : ℕ) (es : List Edit) (i : ℕ) where
-  pub going_end : (p stop : ℕ) → Going len n es i (To p stop) → length es ≤ i → edits_fit len n es ≡ true
+  pub going_end : (r : Extent) → Going len n es i (Some r) → length es ≤ i → edits_fit len n es ≡ true
   unfolding onward
-  going_end p stop s h = s.same ∙ rw (drop_of_length-le es {i = i} h)
+  going_end r s h = s.same ∙ rw (drop_of_length-le es {i = i} h)
 
-  pub going_on : (p stop : ℕ) → Going len n es i (To p stop) → (e : Edit) → e ≡ get_or es i no_edit → i < length es → (x : Reached) → x ≡ reached len n p stop e → Going len n es (i + 1) x
+  pub going_on : (r : Extent) → Going len n es i (Some r) → (e : Edit) → e ≡ get_or es i no_edit → i < length es → (x : Option Extent) → x ≡ reached len n r e → Going len n es (i + 1) x
   unfolding onward
-  going_on p stop s e q h x y = record { low = omega arith; same = s.same ∙ rw (drops es i h e q, y) }
+  going_on r s e q h x y = record { low = omega arith; same = s.same ∙ rw (drops es i h e q, y) }
 
-pub going_refused : (len n : ℕ) (es : List Edit) (i : ℕ) (x : Reached) → Going len n es i x → x ≡ Refused → edits_fit len n es ≡ false
+pub going_refused : (len n : ℕ) (es : List Edit) (i : ℕ) (x : Option Extent) → Going len n es i x → x ≡ None → edits_fit len n es ≡ false
 going_refused len n es i x s y = s.same ∙ rw y (refused len n (drop i es))
+
+-- edits made anew where they stand rise as before
+pub rises-map : (f : Edit → Edit) → ((e : Edit) → (f e).at ≡ e.at) → (p : ℕ) (es : List Edit) → Rises p es → Rises p (map f es)
+rises-map f k p [] r = tt
+rises-map f k p (e ∷ es) r = rw (k e) (r.0, rises-map f k e.at es r.1)
+
+pub map_it : (f : Edit → Edit) (es : List Edit) (i : ℕ) → i < length es → (e u : Edit) → e ≡ get_or es i no_edit → u ≡ f e → u ≡ get_or (map f es) i no_edit
+map_it f es i h e u p q = q ∙ ap f p ∙ sym (get_or-map f es i no_edit no_edit h)

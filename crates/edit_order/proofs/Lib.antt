@@ -4,8 +4,7 @@ pub mod EditSlots
 pub mod EditFitting
 pub mod EditOrder
 pub mod EditSorted
-pub mod EditSumming
-pub mod EditTesting
+pub mod EditPassing
 pub mod EditRising
 pub mod EditCounted
 pub mod EditPieces

@@ -1,4 +1,5 @@
 // The edit slots, five numbers an edit. Numbers behind the last whole group of five are neither read nor written.
+// They stay plain numbers, and `before` one of them: the C interface lends them so.
 ghost use Rattle.std.specs.Prelude.{◌≡◌, ◌<◌, ◌+◌, length, get_or, set};
 ghost use Rattle.edit_order.specs.EditSlots.{edits_of, holding};
 ghost use Rattle.edit_order.specs.EditFives.{no_edit, fives, store};
@@ -14,6 +15,7 @@ pub struct Edit {
 }
 
 // How many edits there are.
+#[tactic(auto, using(crate::proofs::EditSlots::number_is))]
 pub fn number(edits: &[usize]) -> usize
     ensures { result ≡ length (edits_of edits.now) }
 {
@@ -47,6 +49,7 @@ fn write_at(edits: &mut [usize], k: usize, e: Edit)
 }
 
 // The edit with a number, from 0.
+#[tactic(auto, using(crate::proofs::EditSlots::room, crate::proofs::EditSlots::get_is))]
 pub fn get(edits: &[usize], i: usize) -> Edit
     requires { i < length (edits_of edits.now) }
     ensures { result ≡ get_or (edits_of edits.now) i no_edit }
@@ -55,6 +58,7 @@ pub fn get(edits: &[usize], i: usize) -> Edit
 }
 
 // An edit takes the place of the one with a number.
+#[tactic(auto, using(crate::proofs::EditSlots::room, crate::proofs::EditSlots::put_is))]
 pub fn put(edits: &mut [usize], i: usize, e: Edit)
     requires { i < length (edits_of edits.old) }
     ensures { edits.new ≡ holding (set (edits_of edits.old) i e) edits.old }

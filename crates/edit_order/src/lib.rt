@@ -4,5 +4,6 @@
 pub mod edit_count;
 pub mod edit_fits;
 pub mod edit_marks;
+pub mod edit_passes;
 pub mod edit_slots;
 pub mod edit_sort;

@@ -19,16 +19,16 @@ returns-then-not-fits c =
 pub count-t-requires : goal.count-t-requires
 count-t-requires c = rw c.fits.ensures.1 (removed-fits _ _ _ (sym c.fits.ensures.0 ∙ c.if-not-fits.false))
 
-pub returns-in-Over : goal.returns-in-Over
-returns-in-Over c =
+pub returns-in-None : goal.returns-in-None
+returns-in-None c =
     let a = c.args in
     let n = c.count-t.ensures ∙ ap (λ (l : List ℕ). capped a.slots (result_count a.len (edits_of l))) c.fits.ensures.1 in
-    let e = settle_short a.len a.pool a.slots (edits_of a.edits.now) (sym c.fits.ensures.0 ∙ c.if-not-fits.false) _ n c.in-Over.is in
-    (c.refused-in-Over.ensures ∙ e, rw (← e) c.fits.ensures.1)
+    let e = settle_short a.len a.pool a.slots (edits_of a.edits.now) (sym c.fits.ensures.0 ∙ c.if-not-fits.false) _ n c.in-None.is in
+    (c.refused-in-None.ensures ∙ e, rw (← e) c.fits.ensures.1)
 
-pub returns-in-Is : goal.returns-in-Is
-returns-in-Is c =
+pub returns-in-Some : goal.returns-in-Some
+returns-in-Some c =
     let a = c.args in
     let n = c.count-t.ensures ∙ ap (λ (l : List ℕ). capped a.slots (result_count a.len (edits_of l))) c.fits.ensures.1 in
-    let e = settle_records a.len a.pool a.slots (edits_of a.edits.now) (sym c.fits.ensures.0 ∙ c.if-not-fits.false) _ n _ c.in-Is.is in
+    let e = settle_records a.len a.pool a.slots (edits_of a.edits.now) (sym c.fits.ensures.0 ∙ c.if-not-fits.false) _ n _ c.in-Some.is in
     (e, rw (← e) (c.sort.ensures ∙ ap (λ (l : List ℕ). holding (sorted (edits_of l)) l) c.fits.ensures.1))

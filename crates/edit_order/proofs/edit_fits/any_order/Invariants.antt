@@ -1,12 +1,7 @@
--- The edits so far are fine. The measure is the edits left.
-use Rattle.std.proofs.Common.{◌-◌}
+-- The test is that an edit is fine among all.
 use Rattle.edit_order.specs.EditSlots.{edits_of}
 use Rattle.edit_order.specs.Edits.{fine}
-use Rattle.edit_order.proofs.EditTesting.{Passing}
 use Rattle.edit_order.proofs.edit_fits.any_order.Given as goal
 
-abbrev pub invariant-loop-i : goal.invariant-loop-i
-invariant-loop-i l = Passing (fine l.len l.pool (edits_of l.edits)) (edits_of l.edits) l.i
-
-abbrev pub decreases-loop-i : goal.decreases-loop-i
-decreases-loop-i l = l.n - l.i
+abbrev pub ghost-all : goal.ghost-all
+ghost-all a = fine a.test.1 a.test.2 (edits_of a.edits.now)
