@@ -1,12 +1,12 @@
 -- The cells of a row, written to slots by the places of its bytes: one piece, or one text, in each step.
-use Rattle.std.specs.Prelude.{ℕ, ◌+◌, List, Bool, true, false, cond, ◌||◌, ◌&&◌, not, eqb, length, drop, set}
+use Rattle.std.specs.Prelude.{ℕ, ◌+◌, List, Bool, true, false, cond, ◌||◌, ◌&&◌, not, eqb, length, drop, set, Option, Some, None}
 use Rattle.tokenizer.specs.declared.event.Point.{Point}
 use Rattle.tokenizer.specs.declared.event.Event.{Event}
 use Rattle.tokenizer.specs.Lines.{line_body}
 use Rattle.tokenizer.specs.Moves.{rest_of}
 use Rattle.tokenizer.specs.Points.{past}
 use Rattle.tokenizer.specs.Slots.{slot_if, past_if, wrote}
-use Rattle.tokenizer.specs.Events.{Data, GfmTableCell, GfmTableCellText, GfmTableDelimiterCell, GfmTableDelimiterCellValue, SpaceOrTab, enter, leave}
+use Rattle.tokenizer.specs.Events.{Data, GfmTableCell, GfmTableCellText, GfmTableDelimiterCell, GfmTableDelimiterCellValue, SpaceOrTab, number, enter, leave}
 use Rattle.gfm_table.specs.declared.stream.Part.{Part}
 use Rattle.gfm_table.specs.declared.stream.Part.TheVariants.{Head, Delimiter, Body}
 use Rattle.gfm_table.specs.declared.rows.Placed.{Placed}
@@ -51,33 +51,38 @@ module _ (kind : ℕ → ℕ) where
 
   -- a piece, or the whole text that it begins
   abbrev pub reach_of : List ℕ → Placed → Placed
-  reach_of s x = cond (eqb x.name Data) (record { name = x.name; end = (text_left s x).index; column = (text_left s x).column }) x
+  reach_of s x = cond (eqb (number x.name) Data) (record { name = x.name; end = (text_left s x).index; column = (text_left s x).column }) x
 
 -- the step over the piece x: whether it opens a cell, whether a further mark comes, and where the step ends
 abbrev pub step_from : Within → Placed → Bool → Bool → Placed → Step
 step_from w x opens more y =
-    let t = is_text_name x.name in
-    let d = eqb x.name Data in
+    let t = is_text_name (number x.name) in
+    let d = eqb (number x.name) Data in
     record {
       at = w.at;
       column = w.column;
       slot = w.slot;
       name = x.name;
-      link = cond d 1 0;
+      linked = d;
       opens = opens;
       enters = t && (d || w.waits);
       leaves = t && not more;
       end = y.end;
       stop = y.column;
-      seen = w.seen || not (eqb x.name SpaceOrTab);
+      seen = w.seen || not (eqb (number x.name) SpaceOrTab);
       waits = opens || (w.waits && not t);
     }
 
--- the step over the next piece of a row
-unfoldable pub step_of : (ℕ → ℕ) → List ℕ → Part → Within → Step
-step_of kind s part w =
-    let x = next_at w.at w.column (pieces_of kind part (line_body (drop w.at s))) in
-    step_from w x (opens_at kind s w.seen x.name x.end) ((is_text_name x.name && not (eqb x.name Data)) && text_next kind (line_body (drop x.end s))) (reach_of kind s x)
+-- the step over a piece, if there is one
+abbrev pub step_over : (ℕ → ℕ) → List ℕ → Within → Option Placed → Option Step
+step_over kind s w None = None
+step_over kind s w (Some x) =
+    let n = number x.name in
+    Some (step_from w x (opens_at kind s w.seen n x.end) ((is_text_name n && not (eqb n Data)) && text_next kind (line_body (drop x.end s))) (reach_of kind s x))
+
+-- the step over the next piece of a row, if one is left
+unfoldable pub step_of : (ℕ → ℕ) → List ℕ → Part → Within → Option Step
+step_of kind s part w = step_over kind s w (next_at w.at w.column (pieces_of kind part (line_body (drop w.at s))))
 
 -- the slots of a step's events, and the next one
 abbrev pub slots_in : Step → Slots
@@ -113,7 +118,7 @@ stop_of l x = point_in l x.end x.stop
 
 -- the entry of a step's piece
 abbrev pub entry_in : ℕ → Step → Event
-entry_in l x = record { kind = 1; name = x.name; line = l; column = x.column; index = x.at; vs = 0; link = x.link }
+entry_in l x = record { kind = 1; name = number x.name; line = l; column = x.column; index = x.at; vs = 0; link = cond x.linked 1 0 }
 
 -- the slots with a step's events: a cell is left and one is entered, a text or value is entered, the piece is entered and left, the text or value is left
 abbrev pub step_put : Part → ℕ → Step → Slots → List Event → List Event
@@ -122,7 +127,7 @@ step_put part l x k zs =
     let b = set a k.entered (enter (cell_of part) (start_of l x)) in
     let c = set b k.opened (enter (value_of part) (start_of l x)) in
     let d = set c k.begin (entry_in l x) in
-    let e = set d k.finish (leave x.name (stop_of l x)) in
+    let e = set d k.finish (leave (number x.name) (stop_of l x)) in
     set e k.closed (leave (value_of part) (stop_of l x))
 
 -- ## A row
