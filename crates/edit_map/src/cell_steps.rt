@@ -9,7 +9,7 @@ ghost use Rattle.edit_map.specs.Spans.{text_next};
 ghost use Rattle.edit_map.specs.CellRows.{cell_of, value_of, reach_of, step_of, slots_in, first_within, behind, start_of, stop_of, entry_in};
 
 use crate::cell_spans::{opens, reach, text_next};
-use crate::resolve_base::{both, either, is_text_name};
+use crate::resolve_base::is_text_name;
 use gfm_table::rows::{Placed, Reached, marks_at, text_at};
 use gfm_table::stream::Part;
 use tokenizer::event::{Event, Name, Point};
@@ -154,8 +154,8 @@ pub fn text_step(s: &[u8], kinds: &[u8], w: Within) -> Step
         leaves: d,
         end: y.end,
         stop: y.column,
-        seen: either(w.seen, x.name != Name::SpaceOrTab),
-        waits: either(o, unless(w.waits, d)),
+        seen: w.seen | (x.name != Name::SpaceOrTab),
+        waits: o | unless(w.waits, d),
     }
 }
 
@@ -176,12 +176,12 @@ pub fn mark_step(s: &[u8], kinds: &[u8], w: Within) -> Step
         name: x.name,
         link: 0,
         opens: o,
-        enters: both(t, w.waits),
+        enters: t & w.waits,
         leaves: unless(t, m),
         end: x.end,
         stop: x.column,
-        seen: either(w.seen, x.name != Name::SpaceOrTab),
-        waits: either(o, unless(w.waits, t)),
+        seen: w.seen | (x.name != Name::SpaceOrTab),
+        waits: o | unless(w.waits, t),
     }
 }
 

@@ -3,7 +3,7 @@ ghost use Rattle.std.specs.Prelude.{◌≡◌, length};
 ghost use Rattle.tokenizer.specs.Slots.{slots_of};
 ghost use Rattle.edit_order.specs.EditSlots.{edits_of};
 ghost use Rattle.edit_map.specs.EditAnswer.{slots_after, edit_answer, edit_slots, edit_results};
-ghost use Rattle.edit_map.specs.EditSettles.{settled, settled_by};
+ghost use Rattle.edit_map.specs.EditSettles.{settled};
 ghost use Rattle.edit_map.specs.EditCursor.{to_come, Ready};
 
 use crate::edit_walk;
@@ -11,51 +11,22 @@ use crate::edit_walk::Cursor;
 use edit_order::edit_count::Total;
 use edit_order::{edit_count, edit_fits, edit_sort};
 use tokenizer::event::Event;
+use tokenizer::refusal::Refusal;
 use tokenizer::slots;
 
-// Refused by the question with this number, or the number of result events.
-#[derive(Clone, Copy)]
-pub enum Edited {
-    Refused(u8),
-    Accepted(usize),
-}
-
-// The answer, and the cursor before the first result record.
-#[derive(Clone, Copy)]
-pub struct Settled {
-    pub answer: Edited,
-    pub start: Cursor,
-}
-
-// A refusal gives no record.
-fn refused(number: u8) -> Settled
-    ensures { result ≡ settled_by (Edited.Refused number) }
-{
-    Settled {
-        answer: Edited::Refused(number),
-        start: Cursor::Done,
-    }
-}
-
 // Questions 11 and 12, and then the order of the edit slots. A refused edit leaves them as they came.
-fn settle(edits: &mut [usize], len: usize, pool: usize, slots: usize) -> Settled
+fn settle(edits: &mut [usize], len: usize, pool: usize, slots: usize) -> Result<usize, Refusal>
     ensures { (result ≡ settled len pool slots (edits_of edits.old))
-        × (edits.new ≡ slots_after (settled len pool slots (edits_of edits.old)).answer edits.old) }
+        × (edits.new ≡ slots_after (settled len pool slots (edits_of edits.old)) edits.old) }
 {
     if !edit_fits::fits(edits, len, pool) {
-        return refused(11);
+        return Err(Refusal::EditsDoNotFit);
     }
-    let t = edit_count::count(edits, len, slots);
-    match t {
-        Total::Over => refused(12),
-        Total::Is(n) => {
-            edit_sort::sort(edits);
-            Settled {
-                answer: Edited::Accepted(n),
-                start: Cursor::Between(0, 0),
-            }
-        }
-    }
+    let Total::Is(n) = edit_count::count(edits, len, slots) else {
+        return Err(Refusal::TooFewResultSlots);
+    };
+    edit_sort::sort(edits);
+    Ok(n)
 }
 
 // The records from a cursor on, into the result slots, and blank ones behind the last.
@@ -76,12 +47,21 @@ fn edit_into(list: &[Event], edits: &[usize], pool: &[Event], c: Cursor, results
 }
 
 // The list, edited, into the result slots. Refused, these are blank, and the edit slots as they came.
-pub fn edit(list: &[Event], edits: &mut [usize], pool: &[Event], results: &mut [Event]) -> Edited
+pub fn edit(
+    list: &[Event],
+    edits: &mut [usize],
+    pool: &[Event],
+    results: &mut [Event],
+) -> Result<usize, Refusal>
     ensures { (result ≡ edit_answer list.now edits.old pool.now (length results.old))
         × ((edits.new ≡ edit_slots list.now edits.old pool.now (length results.old))
         × (results.new ≡ edit_results list.now edits.old pool.now (length results.old))) }
 {
-    let s = settle(edits, list.len(), pool.len(), results.len());
-    edit_into(list, edits, pool, s.start, results);
-    s.answer
+    let answer = settle(edits, list.len(), pool.len(), results.len());
+    let c = match answer {
+        Ok(_) => Cursor::Between(0, 0),
+        Err(_) => Cursor::Done,
+    };
+    edit_into(list, edits, pool, c, results);
+    answer
 }
