@@ -6,13 +6,11 @@ ghost use Rattle.edit_map.specs.EditAnswer.{slots_after, edit_answer, edit_slots
 ghost use Rattle.edit_map.specs.EditSettles.{settled};
 ghost use Rattle.edit_map.specs.EditCursor.{to_come, Ready};
 
-use crate::edit_walk;
-use crate::edit_walk::Cursor;
+use crate::edit_walk::{Cursor, Walk};
 use edit_order::edit_count::Total;
 use edit_order::{edit_count, edit_fits, edit_sort};
 use tokenizer::event::Event;
 use tokenizer::refusal::Refusal;
-use tokenizer::slots;
 
 // Questions 11 and 12, and then the order of the edit slots. A refused edit leaves them as they came.
 fn settle(edits: &mut [usize], len: usize, pool: usize, slots: usize) -> Result<usize, Refusal>
@@ -30,19 +28,22 @@ fn settle(edits: &mut [usize], len: usize, pool: usize, slots: usize) -> Result<
 }
 
 // The records from a cursor on, into the result slots, and blank ones behind the last.
-fn edit_into(list: &[Event], edits: &[usize], pool: &[Event], c: Cursor, results: &mut [Event])
-    requires { Ready (length list.now) (length pool.now) (edits_of edits.now) c }
-    ensures { results.new ≡ slots_of (length results.old) (to_come list.now pool.now (edits_of edits.now) c) }
+fn edit_into(walk: Walk, c: Cursor, results: &mut [Event])
+    requires { Ready (length walk.list.now) (length walk.pool.now) (edits_of walk.edits.now) c }
+    ensures { results.new ≡ slots_of (length results.old) (to_come walk.entry.list.now walk.entry.pool.now (edits_of walk.entry.edits.now) c) }
 {
     let mut cur = c;
-    let mut i = 0;
-    while i < results.len() {
-        let s = edit_walk::next(edits, cur, list.len(), pool.len());
-        let a = slots::at_or_blank(list, s.at);
-        let b = slots::at_or_blank(pool, s.at);
-        results[i] = edit_walk::choose(s.of, a, b);
-        cur = s.next;
-        i += 1;
+    for slot in results.iter_mut() {
+        match walk.next(cur) {
+            Some(s) => {
+                *slot = s.event;
+                cur = s.next;
+            }
+            None => {
+                *slot = Event::BLANK;
+                cur = Cursor::Done;
+            }
+        }
     }
 }
 
@@ -59,9 +60,9 @@ pub fn edit(
 {
     let answer = settle(edits, list.len(), pool.len(), results.len());
     let c = match answer {
-        Ok(_) => Cursor::Between(0, 0),
+        Ok(_) => Cursor::Between { at: 0, edit: 0 },
         Err(_) => Cursor::Done,
     };
-    edit_into(list, edits, pool, c, results);
+    edit_into(Walk { list, edits, pool }, c, results);
     answer
 }

@@ -5,11 +5,8 @@ use Rattle.edit_order.specs.EditSlots.{edits_of}
 use Rattle.edit_map.specs.EditCursor.{to_come, Ready}
 use Rattle.edit_map.proofs.edit_map.edit_into.Given as goal
 
-abbrev pub invariant-loop-i : goal.invariant-loop-i
-invariant-loop-i l =
-    Ready (length l.list) (length l.pool) (edits_of l.edits) l.cur
-    × (take l.i l.results ++ slots_of (length l.initial.results - l.i) (to_come l.list l.pool (edits_of l.edits) l.cur)
-    ≡ slots_of (length l.initial.results) (to_come l.list l.pool (edits_of l.edits) l.fn.c))
-
-abbrev pub decreases-loop-i : goal.decreases-loop-i
-decreases-loop-i l = length l.initial.results - l.i
+abbrev pub invariant-loop-slot : goal.invariant-loop-slot
+invariant-loop-slot l =
+    Ready (length l.walk.list.now) (length l.walk.pool.now) (edits_of l.walk.edits.now) l.cur
+    × (take l.slot-index l.results ++ slots_of (length l.initial.results - l.slot-index) (to_come l.walk.list.now l.walk.pool.now (edits_of l.walk.edits.now) l.cur)
+    ≡ slots_of (length l.initial.results) (to_come l.walk.list.now l.walk.pool.now (edits_of l.walk.edits.now) l.fn.c))
