@@ -66,13 +66,8 @@ read_all r (e ∷ es) = read_all (read_step r e) es
 -- a list of raw tables may end here
 abbrev pub whole : Place → Bool
 whole Start = true
-whole Entry = false
-whole Fresh = false
-whole Within = false
-whole Between = false
-whole HeadLeave = false
 whole Closed = true
-whole Refused = false
+whole _ = false
 
 -- what was read is a list of raw tables
 abbrev pub accepted : Reading → Bool

@@ -75,23 +75,14 @@ fresh s = record { stage = s.stage; front = s.front; last = s.last; given = None
 
 -- the delimiter row was read to its end
 abbrev pub is_found : Stage → Bool
-is_found Opening = false
-is_found Seeking = false
-is_found Outside = false
-is_found Entered = false
-is_found Inside = false
 is_found Found = true
-is_found Failed = false
+is_found _ = false
 
 -- no further record counts
 abbrev pub settled : Stage → Bool
-settled Opening = false
-settled Seeking = false
-settled Outside = false
-settled Entered = false
-settled Inside = false
 settled Found = true
 settled Failed = true
+settled _ = false
 
 -- no further record counts
 abbrev pub done : Aligning → Bool

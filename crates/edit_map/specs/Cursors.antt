@@ -4,7 +4,7 @@ use Rattle.tokenizer.specs.declared.event.Event.{Event}
 use Rattle.tokenizer.specs.Slots.{event_at}
 use Rattle.tokenizer.specs.Events.{GfmTableCellDivider, SpaceOrTab, blank_event}
 use Rattle.edit_map.specs.declared.resolve_turn.Phase.{Phase}
-use Rattle.edit_map.specs.declared.resolve_turn.Phase.TheVariants.{Out, Head, Row, Cell, Piece, Exit, Text, Copy, Leave, RowExit, HeadExit, End, EndExit, Open, BodyLeave, TableLeave}
+use Rattle.edit_map.specs.declared.resolve_turn.Phase.TheVariants.{Out, Piece, RowExit, HeadExit}
 use Rattle.gfm_table.specs.declared.stream.Part.TheVariants as Part
 use Rattle.edit_map.specs.declared.resolve_turn.Mode.{Mode}
 use Rattle.edit_map.specs.declared.resolve_turn.Turn.{Turn}
@@ -40,22 +40,8 @@ look_all l (e ∷ es) = look_all (look_step l e) es
 
 -- the phase at a piece
 abbrev pub is_piece : Phase → Bool
-is_piece Out = false
-is_piece Head = false
-is_piece Row = false
-is_piece Cell = false
 is_piece Piece = true
-is_piece Exit = false
-is_piece Text = false
-is_piece Copy = false
-is_piece Leave = false
-is_piece RowExit = false
-is_piece HeadExit = false
-is_piece End = false
-is_piece EndExit = false
-is_piece Open = false
-is_piece BodyLeave = false
-is_piece TableLeave = false
+is_piece _ = false
 
 -- a look ahead is asked for at a divider that may open a cell, and wherever a value may open
 abbrev pub asks : Mode → Event → Bool
@@ -63,22 +49,9 @@ asks m this = is_piece m.phase && (not (eqb this.name SpaceOrTab) && (m.seen || 
 
 -- the phases whose turns read the next record
 abbrev pub reads : Phase → Bool
-reads Out = false
-reads Head = false
-reads Row = false
-reads Cell = false
-reads Piece = false
-reads Exit = false
-reads Text = false
-reads Copy = false
-reads Leave = false
 reads RowExit = true
 reads HeadExit = true
-reads End = false
-reads EndExit = false
-reads Open = false
-reads BodyLeave = false
-reads TableLeave = false
+reads _ = false
 
 -- the cursor after a turn
 abbrev pub moves : Cursor → Turn → Cursor

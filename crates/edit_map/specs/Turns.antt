@@ -14,21 +14,7 @@ use Rattle.edit_map.specs.CellRows.{cell_of, value_of}
 -- the phase before a table
 abbrev pub is_out : Phase → Bool
 is_out Out = true
-is_out Head = false
-is_out Row = false
-is_out Cell = false
-is_out Piece = false
-is_out Exit = false
-is_out Text = false
-is_out Copy = false
-is_out Leave = false
-is_out RowExit = false
-is_out HeadExit = false
-is_out End = false
-is_out EndExit = false
-is_out Open = false
-is_out BodyLeave = false
-is_out TableLeave = false
+is_out _ = false
 
 -- ## One turn
 

@@ -4,6 +4,7 @@ ghost use Rattle.tokenizer.specs.Events;
 ghost use Rattle.edit_map.specs.Align;
 ghost use Rattle.edit_map.specs.AlignSteps.{number_of, slot_of, alignment_of, still, gives, value_step, outside_step, align_step, start_at, settled, pauses};
 
+use crate::resolve_base::{is_entry, is_exit};
 use tokenizer::event::{Event, Name};
 
 // The alignment of a column, by the numbers of 01.
@@ -59,20 +60,6 @@ impl Alignment {
     }
 }
 
-// Whether a record enters the name n.
-fn is_entry(n: u8, e: Event) -> bool
-    ensures { result ≡ Align.is_entry n e }
-{
-    e.kind == 1 && e.name == n
-}
-
-// Whether a record leaves the name n.
-fn is_exit(n: u8, e: Event) -> bool
-    ensures { result ≡ Align.is_exit n e }
-{
-    e.kind == 2 && e.name == n
-}
-
 impl Aligning {
     // Before the table at a place.
     pub fn before(at: usize) -> Self
@@ -120,10 +107,7 @@ impl Aligning {
     fn value_step(self, front: bool, e: Event) -> Self
         ensures { result ≡ value_step front self e }
     {
-        if is_exit(Name::GfmTableDelimiterRow, e) {
-            return self.still(Stage::Failed, false, e);
-        }
-        if is_entry(Name::GfmTableDelimiterCellValue, e) {
+        if is_exit(Name::GfmTableDelimiterRow, e) || is_entry(Name::GfmTableDelimiterCellValue, e) {
             return self.still(Stage::Failed, false, e);
         }
         if is_exit(Name::GfmTableDelimiterCellValue, e) {

@@ -2,16 +2,15 @@
 ghost use Rattle.std.specs.Prelude.{◌≡◌, length};
 ghost use Rattle.edit_map.specs.declared.resolve_accept.Place.TheVariants.{Start};
 ghost use Rattle.gfm_table.specs.declared.stream.Part.TheVariants as Part;
-ghost use Rattle.tokenizer.specs.Slots.{event_at};
 ghost use Rattle.edit_map.specs.Accept.{at, read_all};
-ghost use Rattle.edit_map.specs.Cursors.{look_of, step_at, stepped, cursor_after};
+ghost use Rattle.edit_map.specs.Cursors.{look_of, next_at, stepped, cursor_after};
 ghost use Rattle.edit_map.specs.Answers.{resolve_answer, resolve_slots};
 ghost use Rattle.edit_map.specs.Verdicts.{streamed, streamed_slots};
 
 use crate::resolve_accept::Reading;
 use crate::resolve_base::rest_from;
 use crate::resolve_look::Look;
-use crate::resolve_step::{Cursor, Stepped};
+use crate::resolve_step::Cursor;
 use tokenizer::event::Event;
 use tokenizer::refusal::Refusal;
 use tokenizer::slots::{at_or_blank, clear_from};
@@ -20,7 +19,7 @@ use tokenizer::slots::{at_or_blank, clear_from};
 fn accept(list: &[Event]) -> Reading
     ensures { result ≡ read_all (at Start Part.Head) list.now }
 {
-    let mut r = Reading::start();
+    let mut r = Reading::START;
     for e in list {
         r = r.step(*e);
     }
@@ -43,17 +42,15 @@ fn look_ahead(list: &[Event], c: Cursor, this: Event) -> Look
     look
 }
 
-// The step of a cursor, at the record at hand.
-fn step_at(list: &[Event], c: Cursor, this: Event) -> Stepped
-    requires { this ≡ event_at list.now c.at }
-    ensures { result ≡ step_at list.now c }
+// The record behind the one at a cursor, where the next turn reads it, or a blank one.
+fn next_at(list: &[Event], c: Cursor) -> Event
+    ensures { result ≡ next_at list.now c }
 {
-    let next = if c.mode.reads_next() {
+    if c.mode.reads_next() {
         at_or_blank(list, c.at.saturating_add(1))
     } else {
         Event::BLANK
-    };
-    c.step(this, next, look_ahead(list, c, this))
+    }
 }
 
 // A step for each slot, up to the end of the stream.
@@ -67,7 +64,7 @@ fn fill_results(list: &[Event], c: Cursor, results: &mut [Event]) -> Cursor
         if cur.is_over(this) {
             return cur;
         }
-        let s = step_at(list, cur, this);
+        let s = cur.step(this, next_at(list, cur), look_ahead(list, cur, this));
         *slot = Event {
             kind: s.event.kind,
             name: s.event.name,
@@ -88,7 +85,7 @@ fn resolve_into(list: &[Event], results: &mut [Event]) -> Result<usize, Refusal>
     if !accept(list).is_accepted() {
         return Err(Refusal::NoRawTables);
     }
-    let last = fill_results(list, Cursor::front(), results);
+    let last = fill_results(list, Cursor::FRONT, results);
     if last.is_over(at_or_blank(list, last.at)) {
         Ok(last.given)
     } else {

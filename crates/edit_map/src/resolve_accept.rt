@@ -6,6 +6,7 @@ ghost use Rattle.gfm_table.specs.Stream.{name_of};
 ghost use Rattle.edit_map.specs.Raw.{enters, leaves, row_piece, delimiter_piece};
 ghost use Rattle.edit_map.specs.Accept.{piece_of, at, refused, ending, entry_of, after_row, read_in, read_step, whole, accepted};
 
+use crate::resolve_base::{is_entry, is_exit};
 use gfm_table::stream::{Part, row_name};
 use tokenizer::event::{Event, Name};
 
@@ -34,14 +35,14 @@ pub struct Reading {
 fn enters(n: u8, e: Event) -> bool
     ensures { result ≡ enters n e }
 {
-    e.kind == 1 && e.name == n && e.link <= 1
+    is_entry(n, e) && e.link <= 1
 }
 
 // A record that leaves the name n, its link a known code.
 fn leaves(n: u8, e: Event) -> bool
     ensures { result ≡ leaves n e }
 {
-    e.kind == 2 && e.name == n && e.link <= 1
+    is_exit(n, e) && e.link <= 1
 }
 
 // Whether a row may hold pieces of the name n.
@@ -66,9 +67,8 @@ fn piece_of(p: Part, n: u8) -> bool
     ensures { result ≡ piece_of p n }
 {
     match p {
-        Part::Head => row_piece(n),
+        Part::Head | Part::Body => row_piece(n),
         Part::Delimiter => delimiter_piece(n),
-        Part::Body => row_piece(n),
     }
 }
 
@@ -81,13 +81,6 @@ fn at(place: Place, part: Part) -> Reading
         part,
         due: None,
     }
-}
-
-// No raw table.
-fn refused() -> Reading
-    ensures { result ≡ refused }
-{
-    at(Place::Refused, Part::Head)
 }
 
 // A line end is entered, before a row.
@@ -105,7 +98,7 @@ fn ending(part: Part) -> Reading
 fn passing(b: bool, r: Reading) -> Reading
     ensures { result ≡ cond b r refused }
 {
-    if b { r } else { refused() }
+    if b { r } else { Reading::REFUSED }
 }
 
 // A piece is entered.
@@ -175,17 +168,24 @@ fn read_in(l: Place, p: Part, e: Event) -> Reading
         Place::Between => passing(enters(Name::LineEnding, e), ending(Part::Delimiter)),
         Place::HeadLeave => passing(leaves(Name::GfmTableHead, e), at(Place::Closed, Part::Head)),
         Place::Closed => closed(e),
-        Place::Refused => refused(),
+        Place::Refused => Reading::REFUSED,
     }
 }
 
 impl Reading {
     // Before the first record.
-    pub fn start() -> Self
-        ensures { result ≡ at Place.Start Part.Head }
-    {
-        at(Place::Start, Part::Head)
-    }
+    pub const START: Reading = Reading {
+        place: Place::Start,
+        part: Part::Head,
+        due: None,
+    };
+
+    // No raw table.
+    pub const REFUSED: Reading = Reading {
+        place: Place::Refused,
+        part: Part::Head,
+        due: None,
+    };
 
     // One record more.
     pub fn step(self, e: Event) -> Self

@@ -1,8 +1,23 @@
 // What the resolver's modules share.
 ghost use Rattle.std.specs.Prelude.{◌≡◌, drop};
+ghost use Rattle.edit_map.specs.Align;
 ghost use Rattle.edit_map.specs.Base.{is_row_name, is_text_name};
 
 use tokenizer::event::{Event, Name};
+
+// Whether a record enters the name n.
+pub fn is_entry(n: u8, e: Event) -> bool
+    ensures { result ≡ Align.is_entry n e }
+{
+    e.kind == 1 && e.name == n
+}
+
+// Whether a record leaves the name n.
+pub fn is_exit(n: u8, e: Event) -> bool
+    ensures { result ≡ Align.is_exit n e }
+{
+    e.kind == 2 && e.name == n
+}
 
 // Whether a name is that of a row.
 pub fn is_row_name(n: u8) -> bool

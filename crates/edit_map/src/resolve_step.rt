@@ -1,9 +1,9 @@
 // The resolver as a stream of result records.
 ghost use Rattle.std.specs.Prelude.{◌≡◌};
-ghost use Rattle.edit_map.specs.Cursors.{is_over, resolve_step, front};
+ghost use Rattle.edit_map.specs.Cursors.{is_over, resolve_step};
 
 use crate::resolve_look::Look;
-use crate::resolve_turn::{Mode, Phase, turn_of};
+use crate::resolve_turn::{Mode, Phase};
 use gfm_table::stream::Part;
 use tokenizer::event::Event;
 
@@ -24,15 +24,17 @@ pub struct Stepped {
 
 impl Cursor {
     // Before the first table of a list.
-    pub fn front() -> Self
-        ensures { result ≡ front }
-    {
-        Cursor {
-            mode: Mode::plain(Phase::Out, Part::Head),
-            at: 0,
-            given: 0,
-        }
-    }
+    pub const FRONT: Cursor = Cursor {
+        mode: Mode {
+            phase: Phase::Out,
+            part: Part::Head,
+            seen: false,
+            waits: false,
+            left: 0,
+        },
+        at: 0,
+        given: 0,
+    };
 
     // Whether the stream is at its end: no table follows.
     pub fn is_over(self, this: Event) -> bool
@@ -46,7 +48,7 @@ impl Cursor {
     pub fn step(self, this: Event, next: Event, look: Look) -> Stepped
         ensures { result ≡ resolve_step self this next look }
     {
-        let t = turn_of(self.mode, this, next, look.ahead, look.solid);
+        let t = self.mode.turn(this, next, look);
         Stepped {
             event: t.event,
             next: Cursor {

@@ -4,6 +4,7 @@ ghost use Rattle.edit_map.specs.Turns.{value_phase, plain, given, piece_turn, ro
 
 use crate::cell_steps::{cell_name, value_name};
 use crate::resolve_base::{is_row_name, is_text_name};
+use crate::resolve_look::Look;
 use gfm_table::stream::Part;
 use tokenizer::event::{Event, Name};
 
@@ -66,9 +67,8 @@ fn value_phase(p: Part) -> Phase
     ensures { result ≡ value_phase p }
 {
     match p {
-        Part::Head => Phase::Text,
+        Part::Head | Part::Body => Phase::Text,
         Part::Delimiter => Phase::Copy,
-        Part::Body => Phase::Text,
     }
 }
 
@@ -167,17 +167,17 @@ fn copy_piece(m: Mode, this: Event) -> Turn
 
 // At a piece's entry, or at the row's exit.
 #[tactic(auto, unfolding(crate::specs::Turns::piece_turn))]
-fn piece_turn(m: Mode, this: Event, ahead: usize, solid: bool) -> Turn
-    ensures { result ≡ piece_turn m this ahead solid }
+fn piece_turn(m: Mode, this: Event, look: Look) -> Turn
+    ensures { result ≡ piece_turn m this look.ahead look.solid }
 {
     if is_row_name(this.name) {
         return leave_cell(m.part, this, Phase::RowExit);
     }
-    if m.seen && this.name == Name::GfmTableCellDivider && solid {
+    if m.seen && this.name == Name::GfmTableCellDivider && look.solid {
         return leave_cell(m.part, this, Phase::Cell);
     }
     if m.waits && is_text_name(this.name) {
-        return enter_value(m.part, this, ahead);
+        return enter_value(m.part, this, look.ahead);
     }
     copy_piece(m, this)
 }
@@ -202,55 +202,57 @@ fn copy_turn(m: Mode, this: Event) -> Turn
     }
 }
 
-// One record, and the mode after it.
-pub fn turn_of(m: Mode, this: Event, next: Event, ahead: usize, solid: bool) -> Turn
-    ensures { result ≡ turn_of m this next ahead solid }
-{
-    let p = m.part;
-    let piece = Mode {
-        phase: Phase::Piece,
-        left: 0,
-        ..m
-    };
-    match m.phase {
-        Phase::Out => given(
-            Event::enter(Name::GfmTable, this.into()),
-            Mode::plain(Phase::Head, Part::Head),
-            0,
-        ),
-        Phase::Head => given(this, Mode::plain(Phase::Row, Part::Head), 1),
-        Phase::Row => given(this, Mode::plain(Phase::Cell, p), 1),
-        Phase::Cell => enter_cell(p, this),
-        Phase::Piece => piece_turn(m, this, ahead, solid),
-        Phase::Exit => given(this, piece, 1),
-        Phase::Text => {
-            let then = Mode {
-                phase: Phase::Copy,
-                left: 0,
-                ..m
-            };
-            given(Event { link: 1, ..this }, then, m.left)
+impl Mode {
+    // One record, and the mode after it.
+    pub fn turn(self, this: Event, next: Event, look: Look) -> Turn
+        ensures { result ≡ turn_of self this next look.ahead look.solid }
+    {
+        let p = self.part;
+        let piece = Mode {
+            phase: Phase::Piece,
+            left: 0,
+            ..self
+        };
+        match self.phase {
+            Phase::Out => given(
+                Event::enter(Name::GfmTable, this.into()),
+                Mode::plain(Phase::Head, Part::Head),
+                0,
+            ),
+            Phase::Head => given(this, Mode::plain(Phase::Row, Part::Head), 1),
+            Phase::Row => given(this, Mode::plain(Phase::Cell, p), 1),
+            Phase::Cell => enter_cell(p, this),
+            Phase::Piece => piece_turn(self, this, look),
+            Phase::Exit => given(this, piece, 1),
+            Phase::Text => {
+                let then = Mode {
+                    phase: Phase::Copy,
+                    left: 0,
+                    ..self
+                };
+                given(Event { link: 1, ..this }, then, self.left)
+            }
+            Phase::Copy => copy_turn(self, this),
+            Phase::Leave => given(Event::exit(value_name(p), this.into()), piece, 1),
+            Phase::RowExit => row_exit_turn(p, this, next),
+            Phase::HeadExit => head_exit_turn(this, next),
+            Phase::End => given(this, Mode::plain(Phase::EndExit, p), 1),
+            Phase::EndExit => end_exit_turn(p, this),
+            Phase::Open => given(
+                Event::enter(Name::GfmTableBody, this.into()),
+                Mode::plain(Phase::Row, Part::Body),
+                0,
+            ),
+            Phase::BodyLeave => given(
+                Event::exit(Name::GfmTableBody, this.into()),
+                Mode::plain(Phase::TableLeave, Part::Body),
+                0,
+            ),
+            Phase::TableLeave => given(
+                Event::exit(Name::GfmTable, this.into()),
+                Mode::plain(Phase::Out, Part::Head),
+                1,
+            ),
         }
-        Phase::Copy => copy_turn(m, this),
-        Phase::Leave => given(Event::exit(value_name(p), this.into()), piece, 1),
-        Phase::RowExit => row_exit_turn(p, this, next),
-        Phase::HeadExit => head_exit_turn(this, next),
-        Phase::End => given(this, Mode::plain(Phase::EndExit, p), 1),
-        Phase::EndExit => end_exit_turn(p, this),
-        Phase::Open => given(
-            Event::enter(Name::GfmTableBody, this.into()),
-            Mode::plain(Phase::Row, Part::Body),
-            0,
-        ),
-        Phase::BodyLeave => given(
-            Event::exit(Name::GfmTableBody, this.into()),
-            Mode::plain(Phase::TableLeave, Part::Body),
-            0,
-        ),
-        Phase::TableLeave => given(
-            Event::exit(Name::GfmTable, this.into()),
-            Mode::plain(Phase::Out, Part::Head),
-            1,
-        ),
     }
 }

@@ -21,7 +21,7 @@ loop-slot-preserved c =
     let l = c.loop-slot in
     let es = c.args.list.now in
     let on = sym (c.is_over.ensures ∙ ap (is_over l.cur) c.at_or_blank-this.ensures) ∙ c.if-is_over.false in
-    rw (c.step_at-s.ensures, c.at_or_blank-this.ensures) (
+    rw (c.step-s.ensures, c.next_at.ensures, c.look_ahead.ensures, c.at_or_blank-this.ensures) (
       filled_more es l.cur l.slot-index l.results on (omega arith) ∙ l.invariant.0,
       sym (after_more es (length c.args.results.now - (l.slot-index + 1)) l.cur on) ∙ ap (λ (k : ℕ). cursor_after es k l.cur) (omega arith) ∙ l.invariant.1,
     )
