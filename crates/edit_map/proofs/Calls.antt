@@ -16,7 +16,6 @@ use Rattle.tokenizer.specs.declared.event.Event.{Event}
 use Rattle.tokenizer.specs.Events.{blank_event}
 use Rattle.tokenizer.specs.Slots.{slots_of, cleared_from}
 use Rattle.tokenizer.specs.declared.refusal.Refusal.{Refusal}
-use Rattle.tokenizer.specs.declared.refusal.Refusal.TheVariants as Refusal
 use Rattle.tokenizer.proofs.Blanks.{slots_none, cleared_all}
 use Rattle.edit_map.specs.declared.resolve_step.Cursor.{Cursor}
 use Rattle.edit_map.specs.declared.infer_step.Aligning.{Aligning}

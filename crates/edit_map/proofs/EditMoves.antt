@@ -1,7 +1,7 @@
 -- The steps of the cursor: each gives one record of what is still to come, or none and goes on.
 -- Assumes nothing.
 use Prim.Native.Nat.{ℕ, suc, ◌+◌, ◌≤◌, ◌<◌}
-use mathlib.Core.Path.{◌≡◌, refl, ap, sym, ◌∙◌, subst}
+use mathlib.Core.Path.{◌≡◌, refl, ap, sym, ◌∙◌}
 use mathlib.Core.List.{List, [], ◌∷◌}
 use mathlib.Core.Bool.{Bool, true, false, cond}
 use mathlib.Core.Logic.{◌⊎◌, inl, inr}
@@ -15,7 +15,7 @@ use lib.Seq.{drop-cons, drop-drop, drop-nil, get_or-drop}
 use Rattle.tokenizer.specs.declared.event.Event.{Event}
 use Rattle.edit_order.specs.declared.edit_slots.Edit.{Edit}
 use Rattle.edit_map.specs.declared.edit_walk.Cursor.{Cursor}
-use Rattle.edit_map.specs.declared.edit_walk.Cursor.TheVariants.{Between, Back, Forth, Done}
+use Rattle.edit_map.specs.declared.edit_walk.Cursor.TheVariants.{Between, Back, Forth}
 use Rattle.edit_map.specs.declared.edit_walk.Stepped.TheVariants as step
 use Rattle.edit_map.specs.declared.edit_walk.Source.{Source}
 use Rattle.std.specs.Prelude.{Some, None}

@@ -10,7 +10,6 @@ use Rattle.tokenizer.specs.declared.event.Event.{Event}
 use Rattle.tokenizer.specs.Slots.{slots_of}
 use Rattle.std.specs.Prelude.{Result, Ok, Err}
 use Rattle.tokenizer.specs.declared.refusal.Refusal.{Refusal}
-use Rattle.tokenizer.specs.declared.refusal.Refusal.TheVariants as Refusal
 use Rattle.edit_order.specs.EditSlots.{edits_of}
 use Rattle.edit_order.specs.Edits.{edited_list, edits_fit}
 use Rattle.edit_order.specs.EditOrder.{sorted}

@@ -13,7 +13,6 @@ use Rattle.tokenizer.specs.Events.{GfmTableCellDivider, GfmTableCellText, GfmTab
 use Rattle.gfm_table.specs.Rows.{Passed, all_both}
 use Rattle.edit_map.specs.declared.resolve_turn.Phase.TheVariants.{Cell, Piece, Exit, Text, Copy, RowExit}
 use Rattle.gfm_table.specs.declared.stream.Part.{Part}
-use Rattle.gfm_table.specs.declared.stream.Part.TheVariants as Part
 use Rattle.edit_map.specs.declared.resolve_turn.Mode.{Mode}
 use Rattle.edit_map.specs.declared.resolve_turn.Turn.{Turn}
 use Rattle.edit_map.specs.Tables.{named, is_text, is_solid, any_solid, any_text, cells, first_cell, other_cells, before, last_text, after_text, upto_text, row_inner, delimiter_inner, boundary, cell_events}

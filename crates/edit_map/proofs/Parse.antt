@@ -12,7 +12,6 @@ use Rattle.tokenizer.specs.declared.event.Event.{Event}
 use Rattle.tokenizer.specs.Events.{GfmTableHead, LineEnding}
 use Rattle.gfm_table.specs.Rows.{Passed, Row, both, all_both, raw_row}
 use Rattle.gfm_table.specs.declared.stream.Part.{Part}
-use Rattle.gfm_table.specs.declared.stream.Part.TheVariants as Part
 use Rattle.gfm_table.specs.Stream.{name_of}
 use Rattle.edit_map.specs.declared.resolve_accept.Place.{Place}
 use Rattle.edit_map.specs.declared.resolve_accept.Place.TheVariants.{Start, Entry, Fresh, Within, Between, HeadLeave, Closed, Refused}

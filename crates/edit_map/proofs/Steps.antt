@@ -16,7 +16,6 @@ use Rattle.tokenizer.specs.Events.{GfmTableCellDivider, SpaceOrTab, blank_event}
 use Rattle.edit_map.specs.declared.resolve_turn.Phase.{Phase}
 use Rattle.edit_map.specs.declared.resolve_turn.Phase.TheVariants.{Out, Head, Row, Cell, Piece, Exit, Text, Copy, Leave, RowExit, HeadExit, End, EndExit, Open, BodyLeave, TableLeave}
 use Rattle.gfm_table.specs.declared.stream.Part.{Part}
-use Rattle.gfm_table.specs.declared.stream.Part.TheVariants as Part
 use Rattle.edit_map.specs.declared.resolve_turn.Mode.{Mode}
 use Rattle.edit_map.specs.declared.resolve_turn.Turn.{Turn}
 use Rattle.edit_map.specs.declared.resolve_look.Look.{Look}

@@ -12,7 +12,6 @@ use Rattle.gfm_table.specs.Rows.{Passed, both, all_both, raw_row}
 use Rattle.gfm_table.specs.Rows
 use Rattle.edit_map.specs.declared.resolve_turn.Phase.TheVariants.{Out, Head, Row, RowExit, HeadExit, End, BodyLeave, TableLeave}
 use Rattle.gfm_table.specs.declared.stream.Part.{Part}
-use Rattle.gfm_table.specs.declared.stream.Part.TheVariants as Part
 use Rattle.edit_map.specs.Raw.{enters, leaves, row_piece, delimiter_piece, ArePieces, IsRow, IsLineEnd, AreRows, IsTable, AreTables}
 use Rattle.edit_map.specs.Tables.{delimiter_inner, raw_tables, resolved_tables, BodyRow, Table, raw_body, raw_table, cells, cell_events, first_cell, first_point, resolved_row, resolved_text, resolved_rows, last_exit, resolved_body, resolved_table}
 use Rattle.edit_map.proofs.Stream.{first}

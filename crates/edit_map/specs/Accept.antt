@@ -3,7 +3,6 @@ use Rattle.std.specs.Prelude.{ℕ, List, [], ◌∷◌, Bool, true, false, cond,
 use Rattle.tokenizer.specs.declared.event.Event.{Event}
 use Rattle.tokenizer.specs.Events.{GfmTableHead, LineEnding}
 use Rattle.gfm_table.specs.declared.stream.Part.{Part}
-use Rattle.gfm_table.specs.declared.stream.Part.TheVariants as Part
 use Rattle.gfm_table.specs.Stream.{name_of}
 use Rattle.edit_map.specs.declared.resolve_accept.Place.{Place}
 use Rattle.edit_map.specs.declared.resolve_accept.Place.TheVariants.{Start, Entry, Fresh, Within, Between, HeadLeave, Closed, Refused}

@@ -6,7 +6,6 @@ use Rattle.edit_map.specs.declared.infer_step.Stage.{Stage}
 use Rattle.edit_map.specs.declared.infer_step.Stage.TheVariants.{Opening, Seeking, Outside, Entered, Inside, Found, Failed}
 use Rattle.edit_map.specs.declared.infer_step.Aligning.{Aligning}
 use Rattle.edit_map.specs.declared.infer_step.Alignment.{Alignment}
-use Rattle.edit_map.specs.declared.infer_step.Alignment.TheVariants as Alignment
 use Rattle.edit_map.specs.Base.{plus_of}
 use Rattle.edit_map.specs.Align.{is_entry, is_exit, is_marker}
 

@@ -4,7 +4,6 @@ use Rattle.std.proofs.Math.Option.{Option, none, some}
 use Rattle.tokenizer.specs.declared.event.Event.{Event}
 use Rattle.tokenizer.specs.Slots.{slots_of}
 use Rattle.tokenizer.specs.declared.refusal.Refusal.{Refusal}
-use Rattle.tokenizer.specs.declared.refusal.Refusal.TheVariants as Refusal
 use Rattle.edit_map.specs.Accept.{accepts}
 use Rattle.edit_map.specs.TablesOf.{resolved_list}
 use Rattle.edit_map.specs.Align.{alignments_at}

@@ -3,7 +3,6 @@ use Rattle.std.specs.Prelude.{ℕ, List, [], Bool, cond, leb, length, Result, Ok
 use Rattle.tokenizer.specs.declared.event.Event.{Event}
 use Rattle.tokenizer.specs.Slots.{slots_of}
 use Rattle.tokenizer.specs.declared.refusal.Refusal.{Refusal}
-use Rattle.tokenizer.specs.declared.refusal.Refusal.TheVariants as Refusal
 use Rattle.edit_order.specs.EditSlots.{edits_of, holding}
 use Rattle.edit_order.specs.Edits.{edits_fit, edited_list}
 use Rattle.edit_order.specs.EditOrder.{sorted}

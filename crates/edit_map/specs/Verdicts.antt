@@ -2,7 +2,6 @@
 use Rattle.std.specs.Prelude.{ℕ, List, cond, leb, Result, Ok, Err}
 use Rattle.tokenizer.specs.declared.event.Event.{Event}
 use Rattle.tokenizer.specs.declared.refusal.Refusal.{Refusal}
-use Rattle.tokenizer.specs.declared.refusal.Refusal.TheVariants as Refusal
 use Rattle.edit_map.specs.declared.resolve_step.Cursor.{Cursor}
 use Rattle.edit_map.specs.declared.infer_step.Aligning.{Aligning}
 use Rattle.edit_map.specs.Accept.{accepts}

@@ -1,5 +1,4 @@
 -- A turn counts one edit more of the group.
-use Rattle.std.proofs.Common.{◌≡◌}
 use Rattle.edit_order.specs.EditSlots.{edits_of}
 use Rattle.edit_map.proofs.EditLeading.{Gathering}
 use Rattle.edit_map.proofs.edit_walk.gather.Given as goal

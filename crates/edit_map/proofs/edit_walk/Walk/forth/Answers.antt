@@ -1,6 +1,6 @@
 -- `edit_walk::Walk::forth` meets its contract.
 -- Assumes nothing.
-use Prim.Native.Nat.{◌+◌, ◌-◌}
+use Prim.Native.Nat.{◌-◌}
 use mathlib.Core.Logic.{inl, inr}
 use native.Mathlib.Omega.{arith}
 use Rattle.edit_order.proofs.EditSlots.{inside}
