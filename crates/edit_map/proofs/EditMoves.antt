@@ -17,14 +17,12 @@ use Rattle.edit_order.specs.declared.edit_slots.Edit.{Edit}
 use Rattle.edit_map.specs.declared.edit_walk.Cursor.{Cursor}
 use Rattle.edit_map.specs.declared.edit_walk.Cursor.TheVariants.{Between, Back, Forth}
 use Rattle.edit_map.specs.declared.edit_walk.Stepped.TheVariants as step
-use Rattle.edit_map.specs.declared.edit_walk.Source.{Source}
-use Rattle.std.specs.Prelude.{Some, None}
 use Rattle.edit_order.specs.EditFives.{no_edit}
 use Rattle.edit_order.specs.Edits.{here, removed, addition}
 use Rattle.edit_order.specs.EditOrder.{Rises}
 use Rattle.tokenizer.specs.Events.{blank_event}
 use Rattle.tokenizer.specs.Slots.{event_at}
-use Rattle.edit_map.specs.EditCursor.{leading, front, back, backward, forward, to_come, Stands, Ordered, Ready, Steps, Gives}
+use Rattle.edit_map.specs.EditCursor.{leading, front, back, backward, forward, to_come, Stands, Ordered, Ready, Steps}
 use Rattle.edit_order.proofs.EditOrder.{here-below, rises-after}
 use Rattle.edit_order.proofs.EditSorted.{edited_cong}
 use Rattle.edit_map.proofs.EditLeading.{leading-here, leading_le, leads_on}
@@ -84,7 +82,7 @@ module _ (list pool : List Event) (es : List Edit) (at i : ℕ) (r : Ready (leng
   none_end h = rw (drop_of_length-le es {i = i} h)
 
   module _ (z : here at (drop i es) ≡ []) where
-    pub between_list : at < length list → Steps list pool es (Between at i) (step.Gives (record { event = event_at list at; next = Between (at + 1) i }))
+    pub between_list : at < length list → Steps list pool es (Between at i) (step.Gives (event_at list at) (Between (at + 1) i))
     between_list h = (
       keeps r (omega arith, r.stand.1),
       rw (drop-cons list at blank_event h, add-one at)
@@ -133,7 +131,7 @@ module _ (list pool : List Event) (es : List Edit) (i s left off next : ℕ) (r 
     pub back_room : off < e.adds → e.from + off < length pool
     back_room o = omega (arith, rw (← q) at (fit_pool (length list) (length pool) es r.fit (i + k) (omega (arith, r.stand.1, r.stand.2)) (rw (← q) (omega arith))))
 
-    pub back_pool : (e.before ≡ 0 → ⊥) → off < e.adds → Steps list pool es (Back i s left off next) (step.Gives (record { event = event_at pool (e.from + off); next = Back i s left (off + 1) next }))
+    pub back_pool : (e.before ≡ 0 → ⊥) → off < e.adds → Steps list pool es (Back i s left off next) (step.Gives (event_at pool (e.from + off)) (Back i s left (off + 1) next))
     unfolding backward
     back_pool b o = (
       keeps r r.stand,
@@ -164,7 +162,7 @@ module _ (list pool : List Event) (es : List Edit) (i left off next : ℕ) (r : 
     pub forth_room : off < e.adds → e.from + off < length pool
     forth_room o = omega (arith, rw (← q) at (fit_pool (length list) (length pool) es r.fit i (omega (arith, r.stand.1)) (rw (← q) (omega arith))))
 
-    pub forth_pool : e.before ≡ 0 → off < e.adds → Steps list pool es (Forth i left off next) (step.Gives (record { event = event_at pool (e.from + off); next = Forth i left (off + 1) next }))
+    pub forth_pool : e.before ≡ 0 → off < e.adds → Steps list pool es (Forth i left off next) (step.Gives (event_at pool (e.from + off)) (Forth i left (off + 1) next))
     unfolding forward
     forth_pool b o = (
       keeps r r.stand,
@@ -196,8 +194,8 @@ module _ {list pool : List Event} {es : List Edit} {c d : Cursor} (w : Walking l
   pub next_on : (f : Cursor) → Steps list pool es d (step.On f) → Walking list pool es c f
   next_on f v = record { ready = v.1; comes = w.comes ∙ v.2 }
 
-  pub next_given : (s : Source) → Steps list pool es d (step.Gives s) → Gives list pool es c (Some s)
-  next_given s v = (v.0, w.comes ∙ v.1)
+  pub next_given : (e : Event) (f : Cursor) → Steps list pool es d (step.Gives e f) → Ready (length list) (length pool) es f × (to_come list pool es c ≡ e ∷ to_come list pool es f)
+  next_given e f v = (v.0, w.comes ∙ v.1)
 
-  pub next-end : Steps list pool es d step.End → Gives list pool es c None
+  pub next-end : Steps list pool es d step.End → to_come list pool es c ≡ []
   next-end v = w.comes ∙ v

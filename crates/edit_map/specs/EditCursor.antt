@@ -1,12 +1,11 @@
 -- The cursor over the result of edits that rise: the records that it has yet to give.
-use Rattle.std.specs.Prelude.{ℕ, zero, suc, ◌+◌, ◌-◌, ◌*◌, ◌≤◌, ◌<◌, ◌≡◌, List, [], ◌∷◌, ◌++◌, true, cond, eqb, length, get_or, take, drop, Option, Some, None}
+use Rattle.std.specs.Prelude.{ℕ, zero, suc, ◌+◌, ◌-◌, ◌*◌, ◌≤◌, ◌<◌, ◌≡◌, List, [], ◌∷◌, ◌++◌, true, cond, eqb, length, get_or, take, drop}
 use Rattle.tokenizer.specs.declared.event.Event.{Event}
 use Rattle.edit_order.specs.declared.edit_slots.Edit.{Edit}
 use Rattle.edit_map.specs.declared.edit_walk.Cursor.{Cursor}
 use Rattle.edit_map.specs.declared.edit_walk.Cursor.TheVariants.{Between, Back, Forth, Done}
 use Rattle.edit_map.specs.declared.edit_walk.Stepped.{Stepped}
 use Rattle.edit_map.specs.declared.edit_walk.Stepped.TheVariants as step
-use Rattle.edit_map.specs.declared.edit_walk.Source.{Source}
 use Rattle.edit_order.specs.EditFives.{no_edit}
 use Rattle.edit_order.specs.Edits.{addition, edited, edits_fit}
 use Rattle.edit_order.specs.EditOrder.{Rises}
@@ -81,11 +80,6 @@ Ready len n es Done = Unit {0}
 
 -- what a step tells of what is still to come
 abbrev pub Steps : List Event → List Event → List Edit → Cursor → Stepped → Type 0
-Steps list pool es c (step.Gives s) = Ready (length list) (length pool) es s.next × (to_come list pool es c ≡ s.event ∷ to_come list pool es s.next)
+Steps list pool es c (step.Gives e d) = Ready (length list) (length pool) es d × (to_come list pool es c ≡ e ∷ to_come list pool es d)
 Steps list pool es c (step.On d) = (steps es d < steps es c) × Ready (length list) (length pool) es d × (to_come list pool es c ≡ to_come list pool es d)
 Steps list pool es c step.End = to_come list pool es c ≡ []
-
--- the next record that is to come, and those at the next cursor after it; or none is to come
-abbrev pub Gives : List Event → List Event → List Edit → Cursor → Option Source → Type 0
-Gives list pool es c None = to_come list pool es c ≡ []
-Gives list pool es c (Some s) = Ready (length list) (length pool) es s.next × (to_come list pool es c ≡ s.event ∷ to_come list pool es s.next)

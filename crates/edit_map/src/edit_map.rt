@@ -4,9 +4,9 @@ ghost use Rattle.tokenizer.specs.Slots.{slots_of};
 ghost use Rattle.edit_order.specs.EditSlots.{edits_of};
 ghost use Rattle.edit_map.specs.EditAnswer.{slots_after, edit_answer, edit_slots, edit_results};
 ghost use Rattle.edit_map.specs.EditSettles.{settled};
-ghost use Rattle.edit_map.specs.EditCursor.{to_come, Ready};
+ghost use Rattle.edit_map.specs.Records.{left_of, CanGive};
 
-use crate::edit_walk::{Cursor, Walk};
+use crate::edit_walk::{Cursor, Records, Walk};
 use edit_order::edit_count::Total;
 use edit_order::{edit_count, edit_fits, edit_sort};
 use tokenizer::event::Event;
@@ -27,23 +27,14 @@ fn settle(edits: &mut [usize], len: usize, pool: usize, slots: usize) -> Result<
     Ok(n)
 }
 
-// The records from a cursor on, into the result slots, and blank ones behind the last.
-fn edit_into(walk: Walk, c: Cursor, results: &mut [Event])
-    requires { Ready (length walk.list.now) (length walk.pool.now) (edits_of walk.edits.now) c }
-    ensures { results.new ≡ slots_of (length results.old) (to_come walk.entry.list.now walk.entry.pool.now (edits_of walk.entry.edits.now) c) }
+// Records into the result slots, and blank ones behind the last.
+fn fill(records: Records, results: &mut [Event])
+    requires { CanGive records }
+    ensures { results.new ≡ slots_of (length results.old) (left_of records.entry) }
 {
-    let mut cur = c;
+    let mut records = records;
     for slot in results.iter_mut() {
-        match walk.next(cur) {
-            Some(s) => {
-                *slot = s.event;
-                cur = s.next;
-            }
-            None => {
-                *slot = Event::BLANK;
-                cur = Cursor::Done;
-            }
-        }
+        *slot = records.next().unwrap_or(Event::BLANK);
     }
 }
 
@@ -59,10 +50,11 @@ pub fn edit(
         × (results.new ≡ edit_results list.now edits.old pool.now (length results.old))) }
 {
     let answer = settle(edits, list.len(), pool.len(), results.len());
-    let c = match answer {
+    let walk = Walk { list, edits, pool };
+    let cursor = match answer {
         Ok(_) => Cursor::Between { at: 0, edit: 0 },
         Err(_) => Cursor::Done,
     };
-    edit_into(Walk { list, edits, pool }, c, results);
+    fill(Records { walk, cursor }, results);
     answer
 }

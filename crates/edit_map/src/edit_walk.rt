@@ -2,7 +2,9 @@
 ghost use Rattle.std.specs.Prelude.{◌≡◌, ◌<◌, ◌≤◌, ◌^◌, length, drop};
 ghost use Rattle.edit_order.specs.EditSlots.{edits_of};
 ghost use Rattle.edit_order.specs.Edits.{removed};
-ghost use Rattle.edit_map.specs.EditCursor.{leading, Ready, Steps, Gives};
+ghost use Rattle.edit_map.specs.EditCursor.{leading, Ready, Steps};
+ghost use Rattle.edit_map.specs.Records.{left_of, CanGive, Gives};
+ghost use Rattle.std.specs.Iterator.{item_count};
 
 use edit_order::edit_slots;
 use tokenizer::event::Event;
@@ -42,17 +44,10 @@ pub enum Cursor {
     Done,
 }
 
-// The next record of the result, and the cursor behind it.
-#[derive(Clone, Copy)]
-pub struct Source {
-    pub event: Event,
-    pub next: Cursor,
-}
-
-// A step of the cursor: a record, none, or the end.
+// A step of the cursor: a record and the cursor behind it, another cursor, or the end.
 #[derive(Clone, Copy)]
 pub enum Stepped {
-    Gives(Source),
+    Gives(Event, Cursor),
     On(Cursor),
     End,
 }
@@ -63,6 +58,13 @@ pub struct Walk<'a> {
     pub list: &'a [Event],
     pub edits: &'a [usize],
     pub pool: &'a [Event],
+}
+
+// The records of a result that are still to come.
+#[derive(Clone, Copy)]
+pub struct Records<'a> {
+    pub walk: Walk<'a>,
+    pub cursor: Cursor,
 }
 
 // The edits at one position, from edit i on.
@@ -110,10 +112,7 @@ impl Walk<'_> {
             }
         }
         if at < self.list.len() {
-            return Stepped::Gives(Source {
-                event: self.list[at],
-                next: Cursor::Between { at: at + 1, edit },
-            });
+            return Stepped::Gives(self.list[at], Cursor::Between { at: at + 1, edit });
         }
         Stepped::End
     }
@@ -133,16 +132,16 @@ impl Walk<'_> {
         }
         let e = edit_slots::get(self.edits, edit + (left - 1));
         if e.before != 0 && off < e.adds {
-            return Stepped::Gives(Source {
-                event: self.pool[e.from + off],
-                next: Cursor::Back {
+            return Stepped::Gives(
+                self.pool[e.from + off],
+                Cursor::Back {
                     edit,
                     size,
                     left,
                     off: off + 1,
                     next,
                 },
-            });
+            );
         }
         Stepped::On(Cursor::Back {
             edit,
@@ -163,15 +162,15 @@ impl Walk<'_> {
         }
         let e = edit_slots::get(self.edits, edit);
         if e.before == 0 && off < e.adds {
-            return Stepped::Gives(Source {
-                event: self.pool[e.from + off],
-                next: Cursor::Forth {
+            return Stepped::Gives(
+                self.pool[e.from + off],
+                Cursor::Forth {
                     edit,
                     left,
                     off: off + 1,
                     next,
                 },
-            });
+            );
         }
         Stepped::On(Cursor::Forth {
             edit: edit + 1,
@@ -204,18 +203,29 @@ impl Walk<'_> {
             Cursor::Done => Stepped::End,
         }
     }
+}
 
-    // The next record of the result, if one is to come.
-    pub fn next(self, c: Cursor) -> Option<Source>
-        requires { Ready (length self.list.now) (length self.pool.now) (edits_of self.edits.now) c }
-        ensures { Gives self.entry.list.now self.entry.pool.now (edits_of self.entry.edits.now) c result }
-    {
-        let mut d = c;
+impl Iterator for Records<'_> {
+    type Item = Event;
+
+    ghost can_next = { CanGive };
+
+    ghost next_gives = { Gives };
+
+    ghost remaining = { λ s. item_count left_of s };
+
+    // The next record, if one is to come.
+    fn next(&mut self) -> Option<Event> {
+        let walk = self.walk;
+        let mut c = self.cursor;
         loop {
-            match self.step(d) {
-                Stepped::Gives(s) => return Some(s),
-                Stepped::On(f) => {
-                    d = f;
+            match walk.step(c) {
+                Stepped::Gives(e, next) => {
+                    self.cursor = next;
+                    return Some(e);
+                }
+                Stepped::On(next) => {
+                    c = next;
                 }
                 Stepped::End => return None,
             }
