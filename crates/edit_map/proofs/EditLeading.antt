@@ -1,6 +1,6 @@
 -- The group of edits at one position that a list of edits begins with.
 -- Assumes nothing.
-use Prim.Native.Nat.{ℕ, zero, suc, ◌+◌, ◌-◌, ◌≤◌, ◌<◌}
+use Prim.Native.Nat.{ℕ, zero, suc, ◌+◌, ◌≤◌, ◌<◌}
 use mathlib.Core.Path.{◌≡◌, refl, ap, sym, ◌∙◌}
 use mathlib.Core.List.{List, [], ◌∷◌}
 use mathlib.Core.Bool.{Bool, true, false, cond}
@@ -9,7 +9,7 @@ use native.Mathlib.Nat.{le_refl}
 use native.Mathlib.Numerals.{add-one}
 use lib.Dec.{eqb}
 use borrow.Author.Tests.{eq-eqb, ne_eqb, eqb-true, eqb-false}
-use lib.ListN.{length, get_or, take, drop, drop_of_length-le}
+use lib.ListN.{length, get_or, take, drop, length-drop, drop_of_length-le}
 use lib.Seq.{drop-cons}
 use Rattle.edit_order.specs.declared.edit_slots.Edit.{Edit}
 use Rattle.edit_order.specs.EditFives.{no_edit}
@@ -33,6 +33,15 @@ module _ (p : ℕ) (es : List Edit) (j : ℕ) where
   unfolding leading
   leads_end h = rw (drop_of_length-le es {i = j} h)
 
+pub leading_le : (p : ℕ) (xs : List Edit) → length (leading p xs) ≤ length xs
+unfolding leading
+leading_le p [] = omega arith
+leading_le p (e ∷ xs) = go (eqb e.at p) (leading_le p xs)
+  where
+    go : (b : Bool) → length (leading p xs) ≤ length xs → length (cond b (e ∷ leading p xs) []) ≤ suc (length xs)
+    go true ih = omega arith
+    go false ih = omega arith
+
 pub removed-cons : (e : Edit) (es : List Edit) → removed (e ∷ es) ≡ e.removes + removed es
 unfolding removed
 removed-cons e es = refl
@@ -41,35 +50,36 @@ pub removed_nil : removed [] ≡ 0
 unfolding removed
 removed_nil = refl
 
-pub record Gathering (es : List Edit) (i p j sum : ℕ) : Type 0 where
-  pub from : i ≤ j
+pub record Gathering (es : List Edit) (i p j n sum : ℕ) : Type 0 where
   pub upto : j ≤ length es
-  pub size : length (leading p (drop i es)) ≡ (j - i) + length (leading p (drop j es))
+  pub size : length (leading p (drop i es)) ≡ n + length (leading p (drop j es))
   pub sums : removed (leading p (drop i es)) ≡ sum + removed (leading p (drop j es))
 
-module _ (es : List Edit) (i p j sum : ℕ) (g : Gathering es i p j sum) where
-  gathered : leading p (drop j es) ≡ [] → (j - i ≡ length (leading p (drop i es))) × (sum ≡ removed (leading p (drop i es)))
+module _ (es : List Edit) (i p j n sum : ℕ) (g : Gathering es i p j n sum) where
+  gathered : leading p (drop j es) ≡ [] → (n ≡ length (leading p (drop i es))) × (sum ≡ removed (leading p (drop i es)))
   gathered e = (omega (arith, g.size, ap length e), omega (arith, g.sums, ap removed e ∙ removed_nil))
 
-  pub gather_end : length es ≤ j → (j - i ≡ length (leading p (drop i es))) × (sum ≡ removed (leading p (drop i es)))
+  pub gather_end : length es ≤ j → (n ≡ length (leading p (drop i es))) × (sum ≡ removed (leading p (drop i es)))
   gather_end h = gathered (leads_end p es j h)
 
   -- at edit j
   module _ (e : Edit) (q : e ≡ get_or es j no_edit) (l : j < length es) where
-    pub gather_off : (e.at ≡ p → ⊥) → (j - i ≡ length (leading p (drop i es))) × (sum ≡ removed (leading p (drop i es)))
+    pub gather_off : (e.at ≡ p → ⊥) → (n ≡ length (leading p (drop i es))) × (sum ≡ removed (leading p (drop i es)))
     gather_off h = gathered (leads_off p es j l (λ r. h (ap (λ (x : Edit). x.at) q ∙ r)))
 
     goes_on_lem : e.at ≡ p → leading p (drop j es) ≡ e ∷ leading p (drop (j + 1) es)
     goes_on_lem h = rw q (leads_on p es j l (ap (λ (x : Edit). x.at) (sym q) ∙ h))
 
-    pub gather_fits : e.at ≡ p → sum + e.removes ≤ removed (leading p (drop i es))
-    gather_fits h = omega (arith, g.sums, ap removed (goes_on_lem h) ∙ removed-cons e (leading p (drop (j + 1) es)))
+    pub gather_fits : e.at ≡ p → (n < length es) × (sum + e.removes ≤ removed (leading p (drop i es)))
+    gather_fits h = (
+      omega (arith, g.size, ap length (goes_on_lem h), leading_le p (drop i es), length-drop i es),
+      omega (arith, g.sums, ap removed (goes_on_lem h) ∙ removed-cons e (leading p (drop (j + 1) es))),
+    )
 
-    pub gather_on : e.at ≡ p → Gathering es i p (j + 1) (sum + e.removes)
+    pub gather_on : e.at ≡ p → Gathering es i p (j + 1) (n + 1) (sum + e.removes)
     gather_on h = record {
-      from = omega (arith, g.from);
       upto = omega arith;
-      size = g.size ∙ rw (goes_on_lem h) (omega (arith, g.from));
+      size = g.size ∙ rw (goes_on_lem h) (omega arith);
       sums = g.sums ∙ rw (goes_on_lem h, removed-cons) (omega arith);
     }
 
@@ -100,15 +110,6 @@ take-leading p (e ∷ xs) = go (eqb e.at p) (take-leading p xs)
     go : (b : Bool) → take (length (leading p xs)) xs ≡ leading p xs → take (length (cond b (e ∷ leading p xs) [])) (e ∷ xs) ≡ cond b (e ∷ leading p xs) []
     go true ih = ap (λ (x : List Edit). e ∷ x) ih
     go false ih = refl
-
-pub leading_le : (p : ℕ) (xs : List Edit) → length (leading p xs) ≤ length xs
-unfolding leading
-leading_le p [] = omega arith
-leading_le p (e ∷ xs) = go (eqb e.at p) (leading_le p xs)
-  where
-    go : (b : Bool) → length (leading p xs) ≤ length xs → length (cond b (e ∷ leading p xs) []) ≤ suc (length xs)
-    go true ih = omega arith
-    go false ih = omega arith
 
 -- behind it stand the edits of later positions alone
 pub here-rest : (p q : ℕ) (xs : List Edit) → p < q → here q xs ≡ here q (rest p xs)

@@ -1,7 +1,7 @@
 -- The steps of the cursor: each gives one record of what is still to come, or none and goes on.
 -- Assumes nothing.
 use Prim.Native.Nat.{ℕ, suc, ◌+◌, ◌≤◌, ◌<◌}
-use mathlib.Core.Path.{◌≡◌, refl, ap, sym, ◌∙◌, subst}
+use mathlib.Core.Path.{◌≡◌, refl, ap, sym, ◌∙◌}
 use mathlib.Core.List.{List, [], ◌∷◌}
 use mathlib.Core.Bool.{Bool, true, false, cond}
 use mathlib.Core.Logic.{◌⊎◌, inl, inr}
@@ -15,16 +15,14 @@ use lib.Seq.{drop-cons, drop-drop, drop-nil, get_or-drop}
 use Rattle.tokenizer.specs.declared.event.Event.{Event}
 use Rattle.edit_order.specs.declared.edit_slots.Edit.{Edit}
 use Rattle.edit_map.specs.declared.edit_walk.Cursor.{Cursor}
-use Rattle.edit_map.specs.declared.edit_walk.Cursor.TheVariants.{Between, Back, Forth, Done}
-use Rattle.edit_map.specs.declared.edit_walk.Stepped.{Stepped}
+use Rattle.edit_map.specs.declared.edit_walk.Cursor.TheVariants.{Between, Back, Forth}
 use Rattle.edit_map.specs.declared.edit_walk.Stepped.TheVariants as step
-use Rattle.edit_map.specs.declared.edit_walk.Origin.TheVariants as origin
 use Rattle.edit_order.specs.EditFives.{no_edit}
 use Rattle.edit_order.specs.Edits.{here, removed, addition}
 use Rattle.edit_order.specs.EditOrder.{Rises}
 use Rattle.tokenizer.specs.Events.{blank_event}
-use Rattle.tokenizer.specs.Slots.{slots_of}
-use Rattle.edit_map.specs.EditCursor.{leading, front, back, backward, forward, to_come, steps, Comes, Stands, Ordered, Ready, Steps, Gives}
+use Rattle.tokenizer.specs.Slots.{event_at}
+use Rattle.edit_map.specs.EditCursor.{leading, front, back, backward, forward, to_come, Stands, Ordered, Ready, Steps}
 use Rattle.edit_order.proofs.EditOrder.{here-below, rises-after}
 use Rattle.edit_order.proofs.EditSorted.{edited_cong}
 use Rattle.edit_map.proofs.EditLeading.{leading-here, leading_le, leads_on}
@@ -41,15 +39,15 @@ keeps r s = record { rise = r.rise; fit = r.fit; stand = s }
 
 -- ## Between two groups
 
-module _ (len n : ℕ) (es : List Edit) (at i : ℕ) (r : Ready len n es (Between at i)) where
+module _ (list pool : List Event) (es : List Edit) (at i : ℕ) (r : Ready (length list) (length pool) es (Between at i)) where
   module _ (e : Edit) (q : e ≡ get_or es i no_edit) (h : i < length es) where
     same_at : (get_or es i no_edit).at ≡ e.at
     same_at = ap (λ (x : Edit). x.at) (sym q)
 
     -- an edit of an earlier position
-    pub between_skip : e.at < at → Steps len n es (Between at i) (step.On (Between at (i + 1)))
+    pub between_skip : e.at < at → Steps list pool es (Between at i) (step.On (Between at (i + 1)))
     unfolding here
-    between_skip l = (omega arith, keeps r (r.stand.0, omega arith), λ list pool x y. edited_cong pool at 0 (drop at list) (drop i es) (drop (i + 1) es) skipped)
+    between_skip l = (omega arith, keeps r (r.stand.0, omega arith), edited_cong pool at 0 (drop at list) (drop i es) (drop (i + 1) es) skipped)
       where
         skipped : (k : ℕ) → at ≤ k → here k (drop i es) ≡ here k (drop (i + 1) es)
         skipped k m = rw (add-one i, drop-cons es i no_edit h, ne_eqb (get_or es i no_edit).at k (omega (arith, same_at)))
@@ -61,16 +59,15 @@ module _ (len n : ℕ) (es : List Edit) (at i : ℕ) (r : Ready len n es (Betwee
       rises-here : Rises at (drop i es)
       rises-here = rw (same_at ∙ o) at (rises-own es i h r.rise)
 
-      pub between-room : at + removed (leading at (drop i es)) ≤ len
+      pub between-room : at + removed (leading at (drop i es)) ≤ length list
       between-room =
-          omega (arith, ap removed (leading-here at (drop i es) rises-here), removed-drop at es i, fit-removed len n es r.fit at r.stand.0)
+          omega (arith, ap removed (leading-here at (drop i es) rises-here), removed-drop at es i, fit-removed (length list) (length pool) es r.fit at r.stand.0)
 
-      pub between_group : (s m : ℕ) → s ≡ length (leading at (drop i es)) → m ≡ removed (leading at (drop i es)) → Steps len n es (Between at i) (step.On (Back i s s 0 (at + m)))
+      pub between_group : (s m : ℕ) → s ≡ length (leading at (drop i es)) → m ≡ removed (leading at (drop i es)) → Steps list pool es (Between at i) (step.On (Back i s s 0 (at + m)))
       between_group s m a b = (
         omega (arith, some, fits),
         keeps r (omega (arith, between-room), omega (arith, fits), le_refl s),
-        λ list pool x y.
-            comes_group pool (drop i es) at (drop at list) rises-here (rw length-drop (omega (arith, between-room)))
+        comes_group pool (drop i es) at (drop at list) rises-here (rw length-drop (omega (arith, between-room)))
             ∙ rw (a, b, drop-drop (removed (leading at (drop i es))) at list),
       )
         where
@@ -85,17 +82,15 @@ module _ (len n : ℕ) (es : List Edit) (at i : ℕ) (r : Ready len n es (Betwee
   none_end h = rw (drop_of_length-le es {i = i} h)
 
   module _ (z : here at (drop i es) ≡ []) where
-    pub between_list : at < len → Steps len n es (Between at i) (step.List at (Between (at + 1) i))
+    pub between_list : at < length list → Steps list pool es (Between at i) (step.Gives (event_at list at) (Between (at + 1) i))
     between_list h = (
-      h,
       keeps r (omega arith, r.stand.1),
-      λ list pool x y.
-          rw (drop-cons list at blank_event (omega arith), add-one at)
+      rw (drop-cons list at blank_event h, add-one at)
           (edited-none pool (drop i es) at (get_or list at blank_event) (drop (suc at) list) z ∙ rw (add-one at)),
     )
 
-    pub between-end : len ≤ at → Steps len n es (Between at i) step.End
-    between-end h list pool x y = rw (drop_of_length-le list {i = at} (omega arith)) (edited-end pool (drop i es) at z)
+    pub between-end : length list ≤ at → Steps list pool es (Between at i) step.End
+    between-end h = rw (drop_of_length-le list {i = at} h) (edited-end pool (drop i es) at z)
 
 -- ## In a group
 
@@ -119,14 +114,13 @@ off_back pool e off (inr h) = go (eqb e.before 0)
     go true = addition_off pool e off h
     go false = drop-nil off
 
-module _ (len n : ℕ) (es : List Edit) (i s left off next : ℕ) (r : Ready len n es (Back i s left off next)) where
-  pub back-turn : left ≡ 0 → Steps len n es (Back i s left off next) (step.On (Forth i s 0 next))
+module _ (list pool : List Event) (es : List Edit) (i s left off next : ℕ) (r : Ready (length list) (length pool) es (Back i s left off next)) where
+  pub back-turn : left ≡ 0 → Steps list pool es (Back i s left off next) (step.On (Forth i s 0 next))
   unfolding backward
   back-turn z = (
     omega arith,
     keeps r (r.stand.0, r.stand.1),
-    λ list pool x y.
-        rw (z, forward-start pool (drop i es) s (rw length-drop (omega (arith, r.stand.1)))),
+    rw (z, forward-start pool (drop i es) s (rw length-drop (omega (arith, r.stand.1)))),
   )
 
   -- at the last of the edits that are left
@@ -134,56 +128,56 @@ module _ (len n : ℕ) (es : List Edit) (i s left off next : ℕ) (r : Ready len
     last-is : get_or (drop i es) k no_edit ≡ e
     last-is = get_or-drop i es k no_edit ∙ sym q
 
-    pub back_pool : (e.before ≡ 0 → ⊥) → off < e.adds → Steps len n es (Back i s left off next) (step.Pool (e.from + off) (Back i s left (off + 1) next))
+    pub back_room : off < e.adds → e.from + off < length pool
+    back_room o = omega (arith, rw (← q) at (fit_pool (length list) (length pool) es r.fit (i + k) (omega (arith, r.stand.1, r.stand.2)) (rw (← q) (omega arith))))
+
+    pub back_pool : (e.before ≡ 0 → ⊥) → off < e.adds → Steps list pool es (Back i s left off next) (step.Gives (event_at pool (e.from + off)) (Back i s left (off + 1) next))
     unfolding backward
     back_pool b o = (
-      omega (arith, room),
       keeps r r.stand,
-      λ list pool x y.
-          rw (l, last-is, ne_eqb e.before 0 b, addition_on pool e off o (omega (arith, room))),
+      rw (l, last-is, ne_eqb e.before 0 b, addition_on pool e off o room),
     )
       where
-        room : e.from + e.adds ≤ n
-        room = rw (← q) at (fit_pool len n es r.fit (i + k) (omega (arith, r.stand.1, r.stand.2)) (rw (← q) (omega arith)))
+        room : e.from + e.adds ≤ length pool
+        room = rw (← q) at (fit_pool (length list) (length pool) es r.fit (i + k) (omega (arith, r.stand.1, r.stand.2)) (rw (← q) (omega arith)))
 
-    pub back_on : (e.before ≡ 0) ⊎ (e.adds ≤ off) → Steps len n es (Back i s left off next) (step.On (Back i s k 0 next))
+    pub back_on : (e.before ≡ 0) ⊎ (e.adds ≤ off) → Steps list pool es (Back i s left off next) (step.On (Back i s k 0 next))
     unfolding backward
     back_on o = (
       omega arith,
       keeps r (r.stand.0, r.stand.1, omega (arith, r.stand.2)),
-      λ list pool x y.
-          rw (l, last-is, off_front pool e off o, backward-start pool (drop i es) k (rw length-drop (omega (arith, r.stand.1, r.stand.2)))),
+      rw (l, last-is, off_front pool e off o, backward-start pool (drop i es) k (rw length-drop (omega (arith, r.stand.1, r.stand.2)))),
     )
 
-module _ (len n : ℕ) (es : List Edit) (i left off next : ℕ) (r : Ready len n es (Forth i left off next)) where
-  pub forth_turn : left ≡ 0 → Steps len n es (Forth i left off next) (step.On (Between next i))
+module _ (list pool : List Event) (es : List Edit) (i left off next : ℕ) (r : Ready (length list) (length pool) es (Forth i left off next)) where
+  pub forth_turn : left ≡ 0 → Steps list pool es (Forth i left off next) (step.On (Between next i))
   unfolding forward
-  forth_turn z = (omega arith, keeps r (r.stand.0, omega (arith, r.stand.1)), λ list pool x y. rw z)
+  forth_turn z = (omega arith, keeps r (r.stand.0, omega (arith, r.stand.1)), rw z)
 
   -- at the first of the edits that are left
   module _ (k : ℕ) (l : left ≡ suc k) (e : Edit) (q : e ≡ get_or es i no_edit) where
     first-is : get_or (drop i es) 0 no_edit ≡ e
     first-is = get_or-drop i es 0 no_edit ∙ rw (add-zero i) (sym q)
 
-    pub forth_pool : e.before ≡ 0 → off < e.adds → Steps len n es (Forth i left off next) (step.Pool (e.from + off) (Forth i left (off + 1) next))
+    pub forth_room : off < e.adds → e.from + off < length pool
+    forth_room o = omega (arith, rw (← q) at (fit_pool (length list) (length pool) es r.fit i (omega (arith, r.stand.1)) (rw (← q) (omega arith))))
+
+    pub forth_pool : e.before ≡ 0 → off < e.adds → Steps list pool es (Forth i left off next) (step.Gives (event_at pool (e.from + off)) (Forth i left (off + 1) next))
     unfolding forward
     forth_pool b o = (
-      omega (arith, room),
       keeps r r.stand,
-      λ list pool x y.
-          rw (l, first-is, eq-eqb e.before 0 b, addition_on pool e off o (omega (arith, room))),
+      rw (l, first-is, eq-eqb e.before 0 b, addition_on pool e off o room),
     )
       where
-        room : e.from + e.adds ≤ n
-        room = rw (← q) at (fit_pool len n es r.fit i (omega (arith, r.stand.1)) (rw (← q) (omega arith)))
+        room : e.from + e.adds ≤ length pool
+        room = rw (← q) at (fit_pool (length list) (length pool) es r.fit i (omega (arith, r.stand.1)) (rw (← q) (omega arith)))
 
-    pub forth_on : (e.before ≡ 0 → ⊥) ⊎ (e.adds ≤ off) → Steps len n es (Forth i left off next) (step.On (Forth (i + 1) k 0 next))
+    pub forth_on : (e.before ≡ 0 → ⊥) ⊎ (e.adds ≤ off) → Steps list pool es (Forth i left off next) (step.On (Forth (i + 1) k 0 next))
     unfolding forward
     forth_on o = (
       omega arith,
       keeps r (r.stand.0, omega (arith, r.stand.1)),
-      λ list pool x y.
-          rw (l, first-is, off_back pool e off o, ← (drop-drop 1 i es), forward-start pool (drop 1 (drop i es)) k short, drop-one k (drop i es)),
+      rw (l, first-is, off_back pool e off o, ← (drop-drop 1 i es), forward-start pool (drop 1 (drop i es)) k short, drop-one k (drop i es)),
     )
       where
         short : k ≤ length (drop 1 (drop i es))
@@ -192,28 +186,16 @@ module _ (len n : ℕ) (es : List Edit) (i left off next : ℕ) (r : Ready len n
 -- ## From the step to the next record
 
 -- what was still to come at c is still to come at d
-pub record Walking (len n : ℕ) (es : List Edit) (c d : Cursor) : Type 0 where
-  pub ready : Ready len n es d
-  pub comes : Comes len n es c (λ list pool. to_come list pool es d)
+pub record Walking (list pool : List Event) (es : List Edit) (c d : Cursor) : Type 0 where
+  pub ready : Ready (length list) (length pool) es d
+  pub comes : to_come list pool es c ≡ to_come list pool es d
 
-module _ {len n : ℕ} {es : List Edit} {c d : Cursor} (w : Walking len n es c d) (t : Stepped) (u : Steps len n es d t) where
-  steps-to : (x : Stepped) → t ≡ x → Steps len n es d x
-  steps-to x e = subst (λ (y : Stepped). Steps len n es d y) e u
+module _ {list pool : List Event} {es : List Edit} {c d : Cursor} (w : Walking list pool es c d) where
+  pub next_on : (f : Cursor) → Steps list pool es d (step.On f) → Walking list pool es c f
+  next_on f v = record { ready = v.1; comes = w.comes ∙ v.2 }
 
-  pub next_on : (f : Cursor) → t ≡ step.On f → Walking len n es c f
-  next_on f e = let v = steps-to (step.On f) e in record { ready = v.1; comes = λ list pool x y. w.comes list pool x y ∙ v.2 list pool x y }
+  pub next_given : (e : Event) (f : Cursor) → Steps list pool es d (step.Gives e f) → Ready (length list) (length pool) es f × (to_come list pool es c ≡ e ∷ to_come list pool es f)
+  next_given e f v = (v.0, w.comes ∙ v.1)
 
-  pub next-less : (f : Cursor) → t ≡ step.On f → steps es f < steps es d
-  next-less f e = (steps-to (step.On f) e).0
-
-  pub next_list : (i : ℕ) (f : Cursor) → t ≡ step.List i f → Gives len n es c (record { of = origin.List; at = i; next = f })
-  unfolding slots_of
-  next_list i f e = let v = steps-to (step.List i f) e in (v.1, λ list pool x y m. rw (w.comes list pool x y, v.2 list pool x y))
-
-  pub next_pool : (i : ℕ) (f : Cursor) → t ≡ step.Pool i f → Gives len n es c (record { of = origin.Pool; at = i; next = f })
-  unfolding slots_of
-  next_pool i f e = let v = steps-to (step.Pool i f) e in (v.1, λ list pool x y m. rw (w.comes list pool x y, v.2 list pool x y))
-
-  pub next-end : t ≡ step.End → Gives len n es c (record { of = origin.End; at = 0; next = Done })
-  unfolding slots_of
-  next-end e = let v = steps-to step.End e in (tt, λ list pool x y m. rw (w.comes list pool x y, v list pool x y))
+  pub next-end : Steps list pool es d step.End → to_come list pool es c ≡ []
+  next-end v = w.comes ∙ v

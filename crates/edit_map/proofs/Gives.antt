@@ -12,20 +12,24 @@ use Rattle.tokenizer.specs.declared.event.Event.{Event}
 use Rattle.tokenizer.specs.Events.{GfmTableCellDivider, GfmTableCellText, GfmTableDelimiterCellValue, SpaceOrTab, enter, leave, linked, point_of}
 use Rattle.gfm_table.specs.Rows.{Passed, all_both}
 use Rattle.edit_map.specs.declared.resolve_turn.Phase.TheVariants.{Cell, Piece, Exit, Text, Copy, RowExit}
-use Rattle.edit_map.specs.declared.resolve_base.Part.{Part}
-use Rattle.edit_map.specs.declared.resolve_base.Part.TheVariants.{Header, Delimiter, Body}
+use Rattle.gfm_table.specs.declared.stream.Part.{Part}
 use Rattle.edit_map.specs.declared.resolve_turn.Mode.{Mode}
 use Rattle.edit_map.specs.declared.resolve_turn.Turn.{Turn}
 use Rattle.edit_map.specs.Tables.{named, is_text, is_solid, any_solid, any_text, cells, first_cell, other_cells, before, last_text, after_text, upto_text, row_inner, delimiter_inner, boundary, cell_events}
 use Rattle.edit_map.specs.Cells.{text_ahead, later, last_ahead}
 use Rattle.edit_map.specs.Base.{is_row_name, is_text_name}
-use Rattle.edit_map.specs.Turns.{cell_name, value_name, value_phase, plain, given, piece_turn}
-use Rattle.edit_map.proofs.Stream.{turn_at, ahead_of, solid_of, onward}
+use Rattle.edit_map.specs.Turns.{is_out, value_phase, plain, given, piece_turn}
+use Rattle.edit_map.specs.CellRows.{cell_of, value_of}
+use Rattle.edit_map.proofs.Stream.{first, turn_at, ahead_of, solid_of, onward}
+
+-- no table follows
+abbrev pub is_last : Mode → List Event → Bool
+is_last m es = is_out m.phase && eqb (first es).kind 0
 
 -- the stream gives some records, and goes on from another mode and place
 pub data Gives : Mode → List Event → List Event → Mode → List Event → Type 0 where
   none : {m : Mode} {es : List Event} → Gives m es [] m es
-  more : {m n : Mode} {es fs out : List Event} → (turn_at m es).gave ≡ 1 → Gives (turn_at m es).mode (drop (turn_at m es).by es) out n fs → Gives m es ((turn_at m es).event ∷ out) n fs
+  more : {m n : Mode} {es fs out : List Event} → is_last m es ≡ false → Gives (turn_at m es).mode (drop (turn_at m es).by es) out n fs → Gives m es ((turn_at m es).event ∷ out) n fs
 
 pub then : {m n k : Mode} {es fs gs a b : List Event} → Gives m es a n fs → Gives n fs b k gs → Gives m es (a ++ b) k gs
 then none h = h
@@ -35,10 +39,10 @@ pub moved : {m n : Mode} {es fs gs out o : List Event} → es ≡ fs → out ≡
 moved {m} {n} {es} {fs} {gs} {out} {o} p q g = subst (λ (l : List Event). Gives m l out n gs) (sym p) (subst (λ (l : List Event). Gives m fs l n gs) (sym q) g)
 
 -- a turn that is known only by an equation
-pub turned : {m n : Mode} {es fs out : List Event} (e : Event) (k : Mode) (by : ℕ) → turn_at m es ≡ given e k by → Gives k (drop by es) out n fs → Gives m es (e ∷ out) n fs
-turned {m} {n} {es} {fs} {out} e k by q g =
+pub turned : {m n : Mode} {es fs out : List Event} (e : Event) (k : Mode) (by : ℕ) → is_last m es ≡ false → turn_at m es ≡ given e k by → Gives k (drop by es) out n fs → Gives m es (e ∷ out) n fs
+turned {m} {n} {es} {fs} {out} e k by l q g =
     subst (λ (x : Event). Gives m es (x ∷ out) n fs) (ap (λ (t : Turn). t.event) q)
-    (more (ap (λ (t : Turn). t.gave) q) (subst (λ (t : Turn). Gives t.mode (drop t.by es) out n fs) (sym q) g))
+    (more l (subst (λ (t : Turn). Gives t.mode (drop t.by es) out n fs) (sym q) g))
 
 -- the sorts of pieces, by the tests on the name that the stream makes
 pub record Tests (r s d t : Bool) (n : ℕ) : Type 0 where
@@ -237,9 +241,9 @@ module _ (e : Event) (tail : List Event) (ends : Ends e.name) where
 -- ## The inner records of a cell
 
 abbrev pub inner_of : Part → List Passed → List Event
-inner_of Header = row_inner
-inner_of Delimiter = delimiter_inner
-inner_of Body = row_inner
+inner_of Part.Head = row_inner
+inner_of Part.Delimiter = delimiter_inner
+inner_of Part.Body = row_inner
 
 -- the rest of a cell that still waits for its value, or has it
 abbrev pub inner_at : Part → Bool → List Passed → List Event
@@ -252,16 +256,16 @@ at p seen waits = record { phase = Piece; part = p; seen = seen; waits = waits; 
 inner-none : (p : Part) (w : Bool) → inner_at p w [] ≡ []
 unfolding all_both row_inner delimiter_inner
 inner-none p false = refl
-inner-none Header true = refl
-inner-none Delimiter true = refl
-inner-none Body true = refl
+inner-none Part.Head true = refl
+inner-none Part.Delimiter true = refl
+inner-none Part.Body true = refl
 
 inner-plain : (p : Part) (w : Bool) (x : Passed) (c : List Passed) → w && is_text x ≡ false → inner_at p w (x ∷ c) ≡ x.entry ∷ x.exit ∷ inner_at p w c
 unfolding all_both row_inner delimiter_inner
 inner-plain p false x c h = refl
-inner-plain Header true x c h = rw h
-inner-plain Delimiter true x c h = rw h
-inner-plain Body true x c h = rw h
+inner-plain Part.Head true x c h = rw h
+inner-plain Part.Delimiter true x c h = rw h
+inner-plain Part.Body true x c h = rw h
 
 pub and_none : (b : Bool) {c : Bool} → c ≡ false → b && c ≡ false
 and_none true e = e
@@ -278,16 +282,16 @@ one_less n = omega arith
 module _ (p : Part) where
   -- a value is copied
   copies : (pre : List Event) (l : Event) (post : List Event)
-      → Gives (record { phase = Copy; part = p; seen = true; waits = false; left = length pre }) (pre ++ l ∷ post) (pre ++ l ∷ leave (value_name p) (point_of l) ∷ []) (at p true false) post
+      → Gives (record { phase = Copy; part = p; seen = true; waits = false; left = length pre }) (pre ++ l ∷ post) (pre ++ l ∷ leave (value_of p) (point_of l) ∷ []) (at p true false) post
   copies [] l post = more refl (more refl none)
-  copies (a ∷ pre) l post = turned a (record { phase = Copy; part = p; seen = true; waits = false; left = length pre }) 1 (rw (eqb-suc-zero (length pre), one_less (length pre))) (copies pre l post)
+  copies (a ∷ pre) l post = turned a (record { phase = Copy; part = p; seen = true; waits = false; left = length pre }) 1 refl (rw (eqb-suc-zero (length pre), one_less (length pre))) (copies pre l post)
 
   abbrev value_mode : ℕ → Mode
   value_mode n = record { phase = value_phase p; part = p; seen = true; waits = false; left = n }
 
   -- a value opens
   value_turn : (y : Passed) (es : List Event) (seen : Bool) → Tests false false false true y.entry.name
-      → turn_at (at p seen true) (y.entry ∷ y.exit ∷ es) ≡ given (enter (value_name p) (point_of y.entry)) (value_mode (suc (ahead_of es))) 0
+      → turn_at (at p seen true) (y.entry ∷ y.exit ∷ es) ≡ given (enter (value_of p) (point_of y.entry)) (value_mode (suc (ahead_of es))) 0
   unfolding piece_turn
   value_turn y es true q = rw (q.row, q.divider, q.text)
   value_turn y es false q = rw (q.row, q.text)
@@ -299,15 +303,15 @@ value_cells y ys false q = rw q.space
 
 -- the records of a value that has been entered
 abbrev value_out : Part → Passed → List Passed → List Event
-value_out Header y c = linked y.entry ∷ (last_text y c).exit ∷ leave GfmTableCellText (point_of (last_text y c).exit) ∷ []
-value_out Delimiter y c = (y.entry ∷ y.exit ∷ all_both (upto_text c)) ++ (leave GfmTableDelimiterCellValue (point_of (last_text y c).exit) ∷ [])
-value_out Body y c = linked y.entry ∷ (last_text y c).exit ∷ leave GfmTableCellText (point_of (last_text y c).exit) ∷ []
+value_out Part.Head y c = linked y.entry ∷ (last_text y c).exit ∷ leave GfmTableCellText (point_of (last_text y c).exit) ∷ []
+value_out Part.Delimiter y c = (y.entry ∷ y.exit ∷ all_both (upto_text c)) ++ (leave GfmTableDelimiterCellValue (point_of (last_text y c).exit) ∷ [])
+value_out Part.Body y c = linked y.entry ∷ (last_text y c).exit ∷ leave GfmTableCellText (point_of (last_text y c).exit) ∷ []
 
-inner_value : (p : Part) (y : Passed) (c : List Passed) → is_text y ≡ true → inner_of p (y ∷ c) ≡ enter (value_name p) (point_of y.entry) ∷ value_out p y c ++ all_both (after_text c)
+inner_value : (p : Part) (y : Passed) (c : List Passed) → is_text y ≡ true → inner_of p (y ∷ c) ≡ enter (value_of p) (point_of y.entry) ∷ value_out p y c ++ all_both (after_text c)
 unfolding row_inner delimiter_inner all_both
-inner_value Header y c t = rw t
-inner_value Delimiter y c t = rw (t, append_assoc)
-inner_value Body y c t = rw t
+inner_value Part.Head y c t = rw t
+inner_value Part.Delimiter y c t = rw (t, append_assoc)
+inner_value Part.Body y c t = rw t
 
 module _ (e : Event) (tail : List Event) (ends : Ends e.name) (y : Passed) {ys : List Passed} (g : AllFine ys) where
   abbrev those : List Event
@@ -321,30 +325,30 @@ module _ (e : Event) (tail : List Event) (ends : Ends e.name) (y : Passed) {ys :
 
   -- a text is linked, and what lies between its ends is passed
   linking : (p : Part) → Gives (record { phase = Text; part = p; seen = true; waits = false; left = suc (ahead_of those) }) (y.entry ∷ y.exit ∷ those)
-      (linked y.entry ∷ (last_text y (cell ys)).exit ∷ leave (value_name p) (point_of (last_text y (cell ys)).exit) ∷ []) (at p true false) after
+      (linked y.entry ∷ (last_text y (cell ys)).exit ∷ leave (value_of p) (point_of (last_text y (cell ys)).exit) ∷ []) (at p true false) after
   linking p = more refl (moved jump refl (copies p [] (last_text y (cell ys)).exit after))
 
   -- a delimiter row's value is copied
   abbrev left : Event
   left = leave GfmTableDelimiterCellValue (point_of (last_ahead y ys).exit)
 
-  value_is : value_out Delimiter y (cell ys) ≡ (y.entry ∷ gap y ys) ++ ((last_ahead y ys).exit ∷ left ∷ [])
+  value_is : value_out Part.Delimiter y (cell ys) ≡ (y.entry ∷ gap y ys) ++ ((last_ahead y ys).exit ∷ left ∷ [])
   value_is = rw (← last-is y g) (ap (λ (l : List Event). y.entry ∷ (l ++ (left ∷ []))) (sym (copied y g)) ∙ rw append_assoc)
 
-  copying : Gives (value_mode Delimiter (suc (ahead_of those))) (y.entry ∷ y.exit ∷ those) (value_out Delimiter y (cell ys)) (at Delimiter true false) after
-  copying = rw (ahead_is e tail ends y g) (moved (ap (λ (l : List Event). y.entry ∷ l) (splits y ys (e ∷ tail))) value_is (copies Delimiter (y.entry ∷ gap y ys) (last_ahead y ys).exit after))
+  copying : Gives (value_mode Part.Delimiter (suc (ahead_of those))) (y.entry ∷ y.exit ∷ those) (value_out Part.Delimiter y (cell ys)) (at Part.Delimiter true false) after
+  copying = rw (ahead_is e tail ends y g) (moved (ap (λ (l : List Event). y.entry ∷ l) (splits y ys (e ∷ tail))) value_is (copies Part.Delimiter (y.entry ∷ gap y ys) (last_ahead y ys).exit after))
 
   value_gives : (p : Part) → Gives (value_mode p (suc (ahead_of those))) (y.entry ∷ y.exit ∷ those) (value_out p y (cell ys)) (at p true false) after
-  value_gives Header = linking Header
-  value_gives Delimiter = copying
-  value_gives Body = linking Body
+  value_gives Part.Head = linking Part.Head
+  value_gives Part.Delimiter = copying
+  value_gives Part.Body = linking Part.Body
 
 -- ## The pieces of a row
 
 module _ (p : Part) (e : Event) (tail : List Event) (ends : Ends e.name) where
   -- what is left of a row
   abbrev pub out : Bool → List (List Passed) → List Event
-  out w cs = inner_at p w (first_cell cs) ++ leave (cell_name p) (boundary (other_cells cs) (point_of e)) ∷ cell_events (cell_name p) (inner_of p) (point_of e) (other_cells cs)
+  out w cs = inner_at p w (first_cell cs) ++ leave (cell_of p) (boundary (other_cells cs) (point_of e)) ∷ cell_events (cell_of p) (inner_of p) (point_of e) (other_cells cs)
 
   abbrev pub Done : Mode → List Event → List Event → Type 0
   Done m es o = Gives m es o (plain RowExit p) (e ∷ tail)
@@ -354,13 +358,13 @@ module _ (p : Part) (e : Event) (tail : List Event) (ends : Ends e.name) where
 
   at-end : Pieces []
   unfolding piece_turn all_both cells cell_events
-  at-end seen w = rw (inner-none p w) (turned (leave (cell_name p) (point_of e)) (plain RowExit p) 0 (rw ends.row) none)
+  at-end seen w = rw (inner-none p w) (turned (leave (cell_of p) (point_of e)) (plain RowExit p) 0 refl (rw ends.row) none)
 
   -- a piece that neither opens a cell nor a value
   passes : (y : Passed) (ys : List Passed) (seen w : Bool) {o : List Event} → is_row_name y.entry.name ≡ false → seen && (named GfmTableCellDivider y && solid_of (all_both ys ++ e ∷ tail)) ≡ false → w && is_text y ≡ false
       → Done (at p (seen || is_solid y) w) (all_both ys ++ e ∷ tail) o → Done (at p seen w) (all_both (y ∷ ys) ++ e ∷ tail) (y.entry ∷ y.exit ∷ o)
   unfolding piece_turn all_both
-  passes y ys seen w r d t g = turned y.entry (record { phase = Exit; part = p; seen = seen || is_solid y; waits = w; left = 0 }) 1 (rw (r, d, t)) (more refl g)
+  passes y ys seen w r d t g = turned y.entry (record { phase = Exit; part = p; seen = seen || is_solid y; waits = w; left = 0 }) 1 refl (rw (r, d, t)) (more refl g)
 
   -- the same, with what it means for the cells
   plainly : (y : Passed) (ys : List Passed) (seen w : Bool) → is_row_name y.entry.name ≡ false → seen && (named GfmTableCellDivider y && any_solid ys) ≡ false → w && is_text y ≡ false
@@ -375,7 +379,7 @@ module _ (p : Part) (e : Event) (tail : List Event) (ends : Ends e.name) where
   unfolding piece_turn cells cell_events all_both
   opens y ys w q s g ih =
       rw (q.divider, s, inner-none p w)
-      (turned (leave (cell_name p) (point_of y.entry)) (plain Cell p) 0 (rw (q.row, q.divider, solid-is e tail ends g, s))
+      (turned (leave (cell_of p) (point_of y.entry)) (plain Cell p) 0 refl (rw (q.row, q.divider, solid-is e tail ends g, s))
       (more refl (rw q.space at (plainly y ys false true q.row refl q.text g ih))))
 
   values : (y : Passed) (ys : List Passed) (seen : Bool) → Tests false false false true y.entry.name → AllFine ys → Pieces (later ys)
@@ -383,7 +387,7 @@ module _ (p : Part) (e : Event) (tail : List Event) (ends : Ends e.name) where
   unfolding all_both
   values y ys seen q g ih =
       rw (value_cells y ys seen q, inner_value p y (cell ys) q.text, append_assoc)
-      (turned (enter (value_name p) (point_of y.entry)) (value_mode p (suc (ahead_of (all_both ys ++ e ∷ tail)))) 0 (value_turn p y (all_both ys ++ e ∷ tail) seen q)
+      (turned (enter (value_of p) (point_of y.entry)) (value_mode p (suc (ahead_of (all_both ys ++ e ∷ tail)))) 0 refl (value_turn p y (all_both ys ++ e ∷ tail) seen q)
       (then (value_gives e tail ends y g p) (rw (goes_on_lem g) at (ih true false))))
 
   piece : {y : Passed} {ys : List Passed} → Fine y → AllFine ys → Pieces ys → Pieces (later ys) → Pieces (y ∷ ys)

@@ -18,8 +18,6 @@ pub mod CellRows
 pub mod Aligns
 pub mod Resolving
 pub mod Calls
-pub mod Scanning
-pub mod Halting
 pub mod Passes
 pub mod RustMade
 pub mod RustLoop

@@ -7,17 +7,18 @@ use mathlib.Core.List.{List, [], ◌∷◌, ◌++◌, append_assoc}
 use mathlib.Core.Bool.{Bool, true, false, cond, ◌&&◌, true≢false}
 use lib.Dec.{eqb, leb}
 use borrow.Author.Tests.{eqb-true}
+use Rattle.std.specs.Prelude.{Option, Some, None, is_none}
 use Rattle.tokenizer.specs.declared.event.Event.{Event}
 use Rattle.tokenizer.specs.Events.{GfmTableHead, LineEnding}
 use Rattle.gfm_table.specs.Rows.{Passed, Row, both, all_both, raw_row}
-use Rattle.edit_map.specs.declared.resolve_base.Part.{Part}
-use Rattle.edit_map.specs.declared.resolve_base.Part.TheVariants.{Header, Delimiter, Body}
+use Rattle.gfm_table.specs.declared.stream.Part.{Part}
+use Rattle.gfm_table.specs.Stream.{name_of}
 use Rattle.edit_map.specs.declared.resolve_accept.Place.{Place}
 use Rattle.edit_map.specs.declared.resolve_accept.Place.TheVariants.{Start, Entry, Fresh, Within, Between, HeadLeave, Closed, Refused}
 use Rattle.edit_map.specs.declared.resolve_accept.Reading.{Reading}
 use Rattle.edit_map.specs.Tables.{BodyRow, Table, raw_body, raw_table, raw_tables}
 use Rattle.edit_map.specs.Raw.{enters, leaves, IsPiece, ArePieces, IsRow, IsLineEnd, AreRows, IsTable, AreTables, Parsed}
-use Rattle.edit_map.specs.Accept.{row_name, piece_of, at, refused, ending, entry_of, after_row, read_in, read_step, read_all, whole, accepted, accepts}
+use Rattle.edit_map.specs.Accept.{piece_of, at, refused, ending, entry_of, after_row, read_in, read_due, read_step, read_all, whole, accepted, accepts}
 use Rattle.edit_order.proofs.Bools.{both_true}
 
 -- ## What is left to read at each place
@@ -36,7 +37,7 @@ record PiecesThen (p : Part) (K : List Event → Type 0) (es : List Event) : Typ
   exit : Event
   rest : List Event
   good : ArePieces (piece_of p) pieces
-  leave : leaves (row_name p) exit ≡ true
+  leave : leaves (name_of p) exit ≡ true
   then : K rest
   is : es ≡ all_both pieces ++ (exit ∷ rest)
 
@@ -47,7 +48,7 @@ record SomeThen (p : Part) (K : List Event → Type 0) (es : List Event) : Type 
 record RowThen (p : Part) (K : List Event → Type 0) (es : List Event) : Type 0 where
   row : Row
   rest : List Event
-  good : IsRow (row_name p) (piece_of p) row
+  good : IsRow (name_of p) (piece_of p) row
   then : K rest
   is : es ≡ raw_row row ++ rest
 
@@ -70,12 +71,12 @@ abbrev AfterDelimiter : List Event → Type 0
 AfterDelimiter = Next (leaves GfmTableHead) RowsThen
 
 abbrev AfterHeader : List Event → Type 0
-AfterHeader = EndThen (RowThen Delimiter AfterDelimiter)
+AfterHeader = EndThen (RowThen Part.Delimiter AfterDelimiter)
 
 abbrev After : Part → List Event → Type 0
-After Header = AfterHeader
-After Delimiter = AfterDelimiter
-After Body = RowsThen
+After Part.Head = AfterHeader
+After Part.Delimiter = AfterDelimiter
+After Part.Body = RowsThen
 
 abbrev Left : Place → Part → List Event → Type 0
 Left Start p = Parsed
@@ -88,26 +89,14 @@ Left Closed p = RowsThen
 Left Refused p = λ es. ⊥
 
 -- where something is due, its exit comes first
-abbrev LeftOpen : Bool → Reading → List Event → Type 0
-LeftOpen true r = Left r.place r.part
-LeftOpen false r = Next (leaves r.due) (Left r.place r.part)
+abbrev LeftOpen : Option ℕ → Place → Part → List Event → Type 0
+LeftOpen None l p = Left l p
+LeftOpen (Some n) l p = Next (leaves n) (Left l p)
 
 abbrev LeftAt : Reading → List Event → Type 0
-LeftAt r = LeftOpen (eqb r.due 0) r
+LeftAt r = LeftOpen r.due r.place r.part
 
 -- ## One record more
-
-not_zero : (p : Part) → piece_of p 0 ≡ false
-not_zero Header = refl
-not_zero Delimiter = refl
-not_zero Body = refl
-
-nonzero : (p : Part) (n : ℕ) → piece_of p n ≡ true → eqb n 0 ≡ false
-nonzero p n h = go (eqb n 0) refl
-  where
-    go : (b : Bool) → eqb n 0 ≡ b → b ≡ false
-    go true e = absurd (true≢false (sym (subst (λ (k : ℕ). piece_of p k ≡ true) (eqb-true n 0 e) h) ∙ not_zero p))
-    go false e = refl
 
 pub no_nil : {A : Type 0} {x : A} {xs : List A} → x ∷ xs ≡ [] → ⊥
 no_nil {A} {x} {xs} e = subst full e tt
@@ -124,9 +113,9 @@ when r false es l = absurd l
 entry-left : (p : Part) (e : Event) (es : List Event) → LeftAt (entry_of p e) es → SomeThen p (After p) (e ∷ es)
 unfolding all_both
 entry-left p e es l =
-    let w = when (record { place = Within; part = p; due = e.name }) (piece_of p e.name && enters e.name e) es l in
+    let w = when (record { place = Within; part = p; due = Some e.name }) (piece_of p e.name && enters e.name e) es l in
     let t = both_true (piece_of p e.name) (enters e.name e) w.0 in
-    let n : Next (leaves e.name) (PiecesThen p (After p)) es = subst (λ (b : Bool). LeftOpen b (record { place = Within; part = p; due = e.name }) es) (nonzero p e.name t.0) w.1 in
+    let n : Next (leaves e.name) (PiecesThen p (After p)) es = w.1 in
     let q = n.then in
     record {
       these = record {
@@ -142,22 +131,22 @@ entry-left p e es l =
     }
 
 row-left : (p : Part) → (es : List Event) → LeftAt (after_row p) es → After p es
-row-left Header es l = l
-row-left Delimiter es l = l
-row-left Body es l = l
+row-left Part.Head es l = l
+row-left Part.Delimiter es l = l
+row-left Part.Body es l = l
 
 within-left : (p : Part) (e : Event) (es : List Event) → LeftAt (read_in Within p e) es → PiecesThen p (After p) (e ∷ es)
 unfolding all_both
-within-left p e es = go (leaves (row_name p) e) refl
+within-left p e es = go (leaves (name_of p) e) refl
   where
-    go : (b : Bool) → leaves (row_name p) e ≡ b → LeftAt (cond b (after_row p) (entry_of p e)) es → PiecesThen p (After p) (e ∷ es)
+    go : (b : Bool) → leaves (name_of p) e ≡ b → LeftAt (cond b (after_row p) (entry_of p e)) es → PiecesThen p (After p) (e ∷ es)
     go true h l = record { pieces = []; exit = e; rest = es; good = ArePieces.none; leave = h; then = row-left p es l; is = refl }
     go false h l = (entry-left p e es l).these
 
 -- a row is entered
 row-entry : (p : Part) (e : Event) (es : List Event) → LeftAt (read_in Entry p e) es → RowThen p (After p) (e ∷ es)
 row-entry p e es l =
-    let w = when (at Fresh p) (enters (row_name p) e) es l in
+    let w = when (at Fresh p) (enters (name_of p) e) es l in
     let q = w.1.these in
     record {
       row = record { entry = e; pieces = q.pieces; exit = q.exit };
@@ -178,7 +167,7 @@ table_is t es =
     (ap (λ (l : List Event). raw_row t.head ++ (both t.between ++ l)) (sym (append_assoc (raw_row t.delimiter) (t.exit ∷ raw_body t.body) es))
     ∙ sym (append_assoc (raw_row t.head) (both t.between ++ (raw_row t.delimiter ++ (t.exit ∷ raw_body t.body))) es))
 
-head-entry : (e : Event) (es : List Event) → enters GfmTableHead e ≡ true → RowThen Header AfterHeader es → Parsed (e ∷ es)
+head-entry : (e : Event) (es : List Event) → enters GfmTableHead e ≡ true → RowThen Part.Head AfterHeader es → Parsed (e ∷ es)
 unfolding raw_tables
 head-entry e es h a =
     let b = a.then in
@@ -199,14 +188,14 @@ head-entry e es h a =
     }
 
 -- a body row, or another table
-closed-left : (e : Event) (es : List Event) → LeftAt (read_in Closed Header e) es → RowsThen (e ∷ es)
+closed-left : (e : Event) (es : List Event) → LeftAt (read_in Closed Part.Head e) es → RowsThen (e ∷ es)
 unfolding raw_body
 closed-left e es = go (enters LineEnding e) refl
   where
     table : Parsed (e ∷ es) → RowsThen (e ∷ es)
     table p = record { body = []; tables = p.tables; rows = AreRows.none; good = p.good; is = p.raw }
 
-    row : EndThen (RowThen Body RowsThen) (e ∷ es) → RowsThen (e ∷ es)
+    row : EndThen (RowThen Part.Body RowsThen) (e ∷ es) → RowsThen (e ∷ es)
     row n =
         let a = n.then in
         let r = a.then in
@@ -218,17 +207,17 @@ closed-left e es = go (enters LineEnding e) refl
           is = n.is ∙ ap (λ (l : List Event). both n.end ++ l) (a.is ∙ ap (λ (l : List Event). raw_row a.row ++ l) r.is ∙ sym (append_assoc (raw_row a.row) (raw_body r.body) (raw_tables r.tables)));
         }
 
-    go : (b : Bool) → enters LineEnding e ≡ b → LeftAt (cond b (ending Body) (cond (enters GfmTableHead e) (at Entry Header) refused)) es → RowsThen (e ∷ es)
-    go true h l = row (end-entry Body e es h l)
-    go false h l = let w = when (at Entry Header) (enters GfmTableHead e) es l in table (head-entry e es w.0 w.1)
+    go : (b : Bool) → enters LineEnding e ≡ b → LeftAt (cond b (ending Part.Body) (cond (enters GfmTableHead e) (at Entry Part.Head) refused)) es → RowsThen (e ∷ es)
+    go true h l = row (end-entry Part.Body e es h l)
+    go false h l = let w = when (at Entry Part.Head) (enters GfmTableHead e) es l in table (head-entry e es w.0 w.1)
 
 step_left : (l : Place) (p : Part) (e : Event) (es : List Event) → LeftAt (read_in l p e) es → Left l p (e ∷ es)
-step_left Start p e es h = let w = when (at Entry Header) (enters GfmTableHead e) es h in head-entry e es w.0 w.1
+step_left Start p e es h = let w = when (at Entry Part.Head) (enters GfmTableHead e) es h in head-entry e es w.0 w.1
 step_left Entry p e es h = row-entry p e es h
 step_left Fresh p e es h = entry-left p e es h
 step_left Within p e es h = within-left p e es h
-step_left Between p e es h = let w = when (ending Delimiter) (enters LineEnding e) es h in end-entry Delimiter e es w.0 w.1
-step_left HeadLeave p e es h = let w = when (at Closed Header) (leaves GfmTableHead e) es h in record { head = e; rest = es; passes = w.0; then = w.1; is = refl }
+step_left Between p e es h = let w = when (ending Part.Delimiter) (enters LineEnding e) es h in end-entry Part.Delimiter e es w.0 w.1
+step_left HeadLeave p e es h = let w = when (at Closed Part.Head) (leaves GfmTableHead e) es h in record { head = e; rest = es; passes = w.0; then = w.1; is = refl }
 step_left Closed p e es h = closed-left e es h
 step_left Refused p e es h = absurd h
 
@@ -247,17 +236,19 @@ end-left Refused p h = absurd (true≢false (sym h))
 
 left_at : (r : Reading) (es : List Event) → accepted (read_all r es) ≡ true → LeftAt r es
 unfolding read_all
-left_at r [] h =
-    let t = both_true (eqb r.due 0) (whole r.place) h in
-    subst (λ (b : Bool). LeftOpen b r []) (sym t.0) (end-left r.place r.part t.1)
-left_at r (e ∷ es) h = go (eqb r.due 0) (left_at (read_step r e) es h)
+left_at r [] h = go r.due (both_true (is_none r.due) (whole r.place) h)
   where
-    go : (b : Bool) → LeftAt (cond b (read_in r.place r.part e) (cond (leaves r.due e) (at r.place r.part) refused)) es → LeftOpen b r (e ∷ es)
-    go true l = step_left r.place r.part e es l
-    go false l = let w = when (at r.place r.part) (leaves r.due e) es l in record { head = e; rest = es; passes = w.0; then = w.1; is = refl }
+    go : (d : Option ℕ) → (is_none d ≡ true) × (whole r.place ≡ true) → LeftOpen d r.place r.part []
+    go None t = end-left r.place r.part t.1
+    go (Some n) t = absurd (true≢false (sym t.0))
+left_at r (e ∷ es) h = go r.due (left_at (read_step r e) es h)
+  where
+    go : (d : Option ℕ) → LeftAt (read_due d r.place r.part e) es → LeftOpen d r.place r.part (e ∷ es)
+    go None l = step_left r.place r.part e es l
+    go (Some n) l = let w = when (at r.place r.part) (leaves n e) es l in record { head = e; rest = es; passes = w.0; then = w.1; is = refl }
 
 pub parsed : (es : List Event) → accepts es ≡ true → Parsed es
-parsed es h = left_at (at Start Header) es h
+parsed es h = left_at (at Start Part.Head) es h
 
 -- ## What is made of raw tables is accepted
 
@@ -274,10 +265,10 @@ pub no_line_end : (e : Event) → enters GfmTableHead e ≡ true → enters Line
 no_line_end e h = rw ((enters_is GfmTableHead e h).0, (enters_is GfmTableHead e h).1)
 
 piece-read : (p : Part) {x : Passed} → IsPiece (piece_of p) x → read_step (entry_of p x.entry) x.exit ≡ at Within p
-piece-read p {x} h = rw (h.known, h.enter, nonzero p x.entry.name h.known, h.leave)
+piece-read p {x} h = rw (h.known, h.enter, h.leave)
 
 within-read : (p : Part) (x : Passed) → IsPiece (piece_of p) x → read_step (at Within p) x.entry ≡ entry_of p x.entry
-within-read p x h = rw (no-leave x.entry.name (row_name p) x.entry h.enter)
+within-read p x h = rw (no-leave x.entry.name (name_of p) x.entry h.enter)
 
 pieces-read : (p : Part) {xs : List Passed} (es : List Event) → ArePieces (piece_of p) xs → read_all (at Within p) (all_both xs ++ es) ≡ read_all (at Within p) es
 unfolding read_all all_both
@@ -290,7 +281,7 @@ unfolding read_all all_both
 fresh-read p es ArePieces.none n = absurd (n refl)
 fresh-read p es (ArePieces.piece {x = x} {xs = xs} h hs) n = ap (λ (r : Reading). read_all r (all_both xs ++ es)) (piece-read p h) ∙ pieces-read p es hs
 
-row_read : (p : Part) {r : Row} (es : List Event) → IsRow (row_name p) (piece_of p) r → read_all (at Entry p) (raw_row r ++ es) ≡ read_all (after_row p) es
+row_read : (p : Part) {r : Row} (es : List Event) → IsRow (name_of p) (piece_of p) r → read_all (at Entry p) (raw_row r ++ es) ≡ read_all (after_row p) es
 unfolding read_all
 row_read p {r} es h =
     ap (λ (b : Bool). read_all (cond b (at Fresh p) refused) (all_both r.pieces ++ (r.exit ∷ []) ++ es)) h.enter
@@ -303,37 +294,37 @@ end_read : (p : Part) {x : Passed} (es : List Event) → IsLineEnd x → read_al
 unfolding read_all
 end_read p es h = rw h.leave
 
-body-read : {bs : List BodyRow} (es : List Event) → AreRows bs → read_all (at Closed Header) (raw_body bs ++ es) ≡ read_all (at Closed Header) es
+body-read : {bs : List BodyRow} (es : List Event) → AreRows bs → read_all (at Closed Part.Head) (raw_body bs ++ es) ≡ read_all (at Closed Part.Head) es
 unfolding read_all raw_body
 body-read es AreRows.none = refl
 body-read es (AreRows.row {b = b} {bs = bs} l r h) =
-    ap (λ (t : Bool). read_all (cond t (ending Body) (cond (enters GfmTableHead b.before.entry) (at Entry Header) refused)) (b.before.exit ∷ (raw_row b.row ++ raw_body bs) ++ es)) l.enter
-    ∙ end_read Body ((raw_row b.row ++ raw_body bs) ++ es) l
-    ∙ ap (λ (k : List Event). read_all (at Entry Body) k) (append_assoc (raw_row b.row) (raw_body bs) es)
-    ∙ row_read Body (raw_body bs ++ es) r
+    ap (λ (t : Bool). read_all (cond t (ending Part.Body) (cond (enters GfmTableHead b.before.entry) (at Entry Part.Head) refused)) (b.before.exit ∷ (raw_row b.row ++ raw_body bs) ++ es)) l.enter
+    ∙ end_read Part.Body ((raw_row b.row ++ raw_body bs) ++ es) l
+    ∙ ap (λ (k : List Event). read_all (at Entry Part.Body) k) (append_assoc (raw_row b.row) (raw_body bs) es)
+    ∙ row_read Part.Body (raw_body bs ++ es) r
     ∙ body-read es h
 
 -- a table after its entry, in front of other records
 abbrev pub within : Table → List Event → List Event
 within t es = raw_row t.head ++ (both t.between ++ (raw_row t.delimiter ++ (t.exit ∷ raw_body t.body ++ es)))
 
-table-read : {t : Table} (es : List Event) → IsTable t → read_all (at Entry Header) (within t es) ≡ read_all (at Closed Header) es
+table-read : {t : Table} (es : List Event) → IsTable t → read_all (at Entry Part.Head) (within t es) ≡ read_all (at Closed Part.Head) es
 unfolding read_all
 table-read {t} es h =
-    row_read Header (both t.between ++ (raw_row t.delimiter ++ (t.exit ∷ raw_body t.body ++ es))) h.head
-    ∙ ap (λ (b : Bool). read_all (cond b (ending Delimiter) refused) (t.between.exit ∷ (raw_row t.delimiter ++ (t.exit ∷ raw_body t.body ++ es)))) h.between.enter
-    ∙ end_read Delimiter (raw_row t.delimiter ++ (t.exit ∷ raw_body t.body ++ es)) h.between
-    ∙ row_read Delimiter (t.exit ∷ raw_body t.body ++ es) h.delimiter
-    ∙ ap (λ (b : Bool). read_all (cond b (at Closed Header) refused) (raw_body t.body ++ es)) h.leave
+    row_read Part.Head (both t.between ++ (raw_row t.delimiter ++ (t.exit ∷ raw_body t.body ++ es))) h.head
+    ∙ ap (λ (b : Bool). read_all (cond b (ending Part.Delimiter) refused) (t.between.exit ∷ (raw_row t.delimiter ++ (t.exit ∷ raw_body t.body ++ es)))) h.between.enter
+    ∙ end_read Part.Delimiter (raw_row t.delimiter ++ (t.exit ∷ raw_body t.body ++ es)) h.between
+    ∙ row_read Part.Delimiter (t.exit ∷ raw_body t.body ++ es) h.delimiter
+    ∙ ap (λ (b : Bool). read_all (cond b (at Closed Part.Head) refused) (raw_body t.body ++ es)) h.leave
     ∙ body-read es h.body
 
-closed-read : {ts : List Table} → AreTables ts → read_all (at Closed Header) (raw_tables ts) ≡ at Closed Header
+closed-read : {ts : List Table} → AreTables ts → read_all (at Closed Part.Head) (raw_tables ts) ≡ at Closed Part.Head
 unfolding read_all raw_tables
 closed-read AreTables.none = refl
 closed-read (AreTables.table {t = t} {ts = ts} h hs) =
-    ap (λ (l : List Event). read_all (at Closed Header) l) (sym (table_is t (raw_tables ts)))
-    ∙ ap (λ (b : Bool). read_all (cond b (ending Body) (cond (enters GfmTableHead t.entry) (at Entry Header) refused)) (within t (raw_tables ts))) (no_line_end t.entry h.enter)
-    ∙ ap (λ (b : Bool). read_all (cond b (at Entry Header) refused) (within t (raw_tables ts))) h.enter
+    ap (λ (l : List Event). read_all (at Closed Part.Head) l) (sym (table_is t (raw_tables ts)))
+    ∙ ap (λ (b : Bool). read_all (cond b (ending Part.Body) (cond (enters GfmTableHead t.entry) (at Entry Part.Head) refused)) (within t (raw_tables ts))) (no_line_end t.entry h.enter)
+    ∙ ap (λ (b : Bool). read_all (cond b (at Entry Part.Head) refused) (within t (raw_tables ts))) h.enter
     ∙ table-read (raw_tables ts) h
     ∙ closed-read hs
 
@@ -342,8 +333,8 @@ unfolding read_all raw_tables
 accepts-raw AreTables.none = refl
 accepts-raw (AreTables.table {t = t} {ts = ts} h hs) =
     ap accepted
-    (ap (λ (l : List Event). read_all (at Start Header) l) (sym (table_is t (raw_tables ts)))
-    ∙ ap (λ (b : Bool). read_all (cond b (at Entry Header) refused) (within t (raw_tables ts))) h.enter
+    (ap (λ (l : List Event). read_all (at Start Part.Head) l) (sym (table_is t (raw_tables ts)))
+    ∙ ap (λ (b : Bool). read_all (cond b (at Entry Part.Head) refused) (within t (raw_tables ts))) h.enter
     ∙ table-read (raw_tables ts) h
     ∙ closed-read hs)
 

@@ -1,25 +1,26 @@
 -- What one turn of each loop over slots or records makes, and none.
 -- Assumes nothing.
-use Prim.Native.Nat.{ℕ, suc, ◌<◌, ◌≤◌, ◌^◌}
+use Prim.Native.Nat.{ℕ, zero, suc, ◌+◌, ◌<◌, ◌≤◌, ◌^◌}
 use mathlib.Core.Path.{◌≡◌, refl, sym, ap, ◌∙◌}
-use mathlib.Core.Bool.{Bool, true, false, cond, not}
-use mathlib.Core.List.{List, [], ◌∷◌}
+use mathlib.Core.Bool.{Bool, true, false, not}
+use mathlib.Core.List.{List, [], ◌∷◌, ◌++◌, append-nil}
 use native.Mathlib.Omega.{arith}
-use lib.Dec.{eqb}
-use lib.ListN.{length, drop, drop_of_length-le}
+use lib.ListN.{length, get_or, take, drop, set, take-append-drop, drop_of_length-le}
+use lib.Seq.{take_all}
+use Rattle.tokenizer.specs.Events.{blank_event}
+use Rattle.tokenizer.proofs.Reading.{left-from}
+use Rattle.tokenizer.proofs.Filling.{take-set, kept_set}
 use Rattle.tokenizer.specs.declared.event.Event.{Event}
 use Rattle.tokenizer.specs.Slots.{event_at}
 use Rattle.edit_map.specs.declared.resolve_accept.Reading.{Reading}
 use Rattle.edit_map.specs.declared.resolve_step.Cursor.{Cursor}
 use Rattle.edit_map.specs.declared.resolve_look.Look.{Look}
 use Rattle.edit_map.specs.declared.infer_step.Aligning.{Aligning}
-use Rattle.edit_map.specs.Base.{most, plus_of, on_to, placed_at}
+use Rattle.edit_map.specs.Base.{most, placed_at}
 use Rattle.edit_map.specs.Accept.{read_step, read_all}
-use Rattle.edit_map.specs.Cursors.{asks, look_start, look_step, look_all, look_of, step_at, stepped, cursor_after}
-use Rattle.edit_map.specs.AlignSteps.{align_step, fresh, stops, scan_all, scan_of, aligns_from}
-use Rattle.edit_map.proofs.Steps.{off_stays, placed-is}
-use Rattle.edit_map.proofs.Scanning.{Scans}
-use Rattle.edit_map.proofs.Halting.{Halts}
+use Rattle.edit_map.specs.Cursors.{look_step, look_all, over_at, step_at, stepped, cursor_after}
+use Rattle.edit_map.specs.AlignSteps.{slot_of, align_step, pauses, scan_all, scan_of, aligns_from}
+use Rattle.edit_map.proofs.Steps.{placed-is}
 
 -- a record more is read, and none
 pub read_more : (r : Reading) (e : Event) (es : List Event) → read_all r (e ∷ es) ≡ read_all (read_step r e) es
@@ -30,15 +31,49 @@ pub read_none : (r : Reading) → read_all r [] ≡ r
 unfolding read_all
 read_none r = refl
 
--- a slot more is filled, at the point of the record at hand, and none
-pub step_halts : (es : List Event) → Halts (λ (c : Cursor). placed_at (event_at es c.at) (step_at es c).event) (λ c. (step_at es c).next) (λ c. eqb (step_at es c).gave 0) (stepped es) (cursor_after es)
-unfolding stepped cursor_after
-step_halts es = record {
-  none = λ c. refl;
-  more = λ c y ys. ap (λ (e : Event). e ∷ cond (eqb (step_at es c).gave 0) ys (stepped es (step_at es c).next ys)) (sym (placed-is es c));
-  still = λ c. refl;
-  on = λ n c. refl;
-}
+-- at the end of the stream the slots stay; before it a slot more is filled, at the point of the record at hand
+pub stepped_over : (es : List Event) (c : Cursor) (ys : List Event) → over_at es c ≡ true → stepped es c ys ≡ ys
+unfolding stepped
+stepped_over es c [] h = refl
+stepped_over es c (y ∷ ys) h = rw h
+
+pub stepped_more : (es : List Event) (c : Cursor) (y : Event) (ys : List Event) → over_at es c ≡ false → stepped es c (y ∷ ys) ≡ placed_at (event_at es c.at) (step_at es c).event ∷ stepped es (step_at es c).next ys
+unfolding stepped
+stepped_more es c y ys h = rw (h, placed-is es c)
+
+pub stepped_none : (es : List Event) (c : Cursor) → stepped es c [] ≡ []
+unfolding stepped
+stepped_none es c = refl
+
+-- the same for the cursor
+pub after_over : (es : List Event) (n : ℕ) (c : Cursor) → over_at es c ≡ true → cursor_after es n c ≡ c
+unfolding cursor_after
+after_over es zero c h = refl
+after_over es (suc n) c h = rw h
+
+pub after_more : (es : List Event) (n : ℕ) (c : Cursor) → over_at es c ≡ false → cursor_after es (suc n) c ≡ cursor_after es n (step_at es c).next
+unfolding cursor_after
+after_more es n c h = rw h
+
+pub after_none : (es : List Event) (c : Cursor) → cursor_after es 0 c ≡ c
+unfolding cursor_after
+after_none es c = refl
+
+-- the slots of which i are filled, with what the stream makes of the rest: at its end, one more, and no more
+pub filled_over : (es : List Event) (c : Cursor) (i : ℕ) (zs : List Event) → over_at es c ≡ true → zs ≡ take i zs ++ stepped es c (drop i zs)
+filled_over es c i zs h = sym (ap (λ (k : List Event). take i zs ++ k) (stepped_over es c (drop i zs) h) ∙ take-append-drop i zs)
+
+pub filled_more : (es : List Event) (c : Cursor) (i : ℕ) (zs : List Event) → over_at es c ≡ false → i < length zs
+    → (let e = placed_at (event_at es c.at) (step_at es c).event in take (i + 1) (set zs i e) ++ stepped es (step_at es c).next (drop (i + 1) (set zs i e)) ≡ take i zs ++ stepped es c (drop i zs))
+filled_more es c i zs h l =
+    let e = placed_at (event_at es c.at) (step_at es c).event in
+    let s = (step_at es c).next in
+    ap (λ (k : List Event). take (i + 1) (set zs i e) ++ stepped es s k) (kept_set zs zs i e refl)
+    ∙ sym (take-set zs i e (stepped es s (drop (i + 1) zs)) l)
+    ∙ ap (λ (k : List Event). take i zs ++ k) (sym (stepped_more es c (get_or zs i blank_event) (drop (i + 1) zs) h) ∙ ap (stepped es c) (sym (left-from zs i blank_event l)))
+
+pub filled_none : (es : List Event) (c : Cursor) (i : ℕ) (zs : List Event) → length zs ≤ i → zs ≡ take i zs ++ stepped es c (drop i zs)
+filled_none es c i zs h = sym (ap (λ (k : List Event). take i zs ++ stepped es c k) (drop_of_length-le zs h) ∙ ap (λ (k : List Event). take i zs ++ k) (stepped_none es c) ∙ append-nil (take i zs) ∙ take_all i zs h)
 
 -- a length of a slice
 pub in_most : {n : ℕ} → n < 2 ^ 64 → n ≤ most
@@ -46,45 +81,35 @@ in_most h = omega (arith, h)
 
 -- ## Scans
 
-not_not : (b : Bool) → not b ≡ true → b ≡ false
-not_not true e = sym e
-not_not false e = refl
-
 -- the look ahead
-pub look_scans : Scans (λ (l : Look). not l.on) look_step look_all
-unfolding look_all
-look_scans = record { none = λ l. refl; more = λ l e es h. refl; stays = λ l es h. off_stays l es (not_not l.on h) }
+pub not_on : (b : Bool) → not b ≡ true → b ≡ false
+not_on true e = sym e
+not_on false e = refl
 
-pub look_starts : (es : List Event) (c : Cursor) (this : Event) → look_of es c this ≡ look_all (look_start this) (drop (on_to (not (asks c.mode this)) (plus_of c.at 2) (length es)) es)
+pub look_more : (l : Look) (e : Event) (es : List Event) → look_all l (e ∷ es) ≡ look_all (look_step l e) es
 unfolding look_all
-look_starts es c this = go (asks c.mode this)
-  where
-    go : (b : Bool) → cond b (look_all (look_start this) (drop (plus_of c.at 2) es)) (look_start this) ≡ look_all (look_start this) (drop (on_to (not b) (plus_of c.at 2) (length es)) es)
-    go true = refl
-    go false = ap (look_all (look_start this)) (sym (drop_of_length-le es {i = length es} (omega arith)))
+look_more l e es = refl
+
+pub look_none : (l : Look) → look_all l [] ≡ l
+unfolding look_all
+look_none l = refl
 
 -- the alignments
-pub align_scans : (each : Bool) → Scans (stops each) align_step (scan_all each)
+pub scan_more : (off : Aligning → Bool) (s : Aligning) (e : Event) (es : List Event) → off s ≡ false → scan_all off s (e ∷ es) ≡ scan_all off (align_step s e) es
 unfolding scan_all
-align_scans each = record { none = λ s. refl; more = λ s e es h. rw h; stays = stays }
-  where
-    stays : (s : Aligning) (es : List Event) → stops each s ≡ true → scan_all each s es ≡ s
-    stays s [] h = refl
-    stays s (e ∷ es) h = rw h
+scan_more off s e es h = rw h
 
-pub align_on : (b : Bool) (i n : ℕ) → on_to b i n < n → b ≡ false
-align_on true i n h = absurd (omega arith)
-align_on false i n h = refl
+pub scan_stays : (off : Aligning → Bool) (s : Aligning) (es : List Event) → off s ≡ true → scan_all off s es ≡ s
+unfolding scan_all
+scan_stays off s [] h = refl
+scan_stays off s (e ∷ es) h = rw h
 
-pub align-starts : (each : Bool) (es : List Event) (s : Aligning) → scan_of es each s ≡ scan_all each (fresh s) (drop (on_to (stops each (fresh s)) s.at (length es)) es)
-align-starts each es s = go (stops each (fresh s)) refl
-  where
-    go : (b : Bool) → stops each (fresh s) ≡ b → scan_all each (fresh s) (drop s.at es) ≡ scan_all each (fresh s) (drop (on_to b s.at (length es)) es)
-    go true h = (align_scans each).stays (fresh s) (drop s.at es) h ∙ sym ((align_scans each).stays (fresh s) (drop (length es) es) h)
-    go false h = refl
+pub scan_none : (off : Aligning → Bool) (s : Aligning) → scan_all off s [] ≡ s
+unfolding scan_all
+scan_none off s = refl
 
 -- a slot more is filled, and none
-pub aligns_more : (es : List Event) (n : ℕ) (s : Aligning) → aligns_from es (suc n) s ≡ (scan_of es true s).given ∷ aligns_from es n (scan_of es true s)
+pub aligns_more : (es : List Event) (n : ℕ) (s : Aligning) → aligns_from es (suc n) s ≡ slot_of (scan_of es pauses s).given ∷ aligns_from es n (scan_of es pauses s)
 unfolding aligns_from
 aligns_more es n s = refl
 

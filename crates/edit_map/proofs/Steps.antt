@@ -1,6 +1,6 @@
 -- The cursor's steps are the stream's turns.
 -- Assumes nothing.
-use Prim.Native.Nat.{ℕ, zero, suc, ◌+◌, ◌-◌, ◌≤◌}
+use Prim.Native.Nat.{ℕ, zero, suc, ◌+◌, ◌≤◌}
 use mathlib.Core.Path.{◌≡◌, refl, sym, ap, ◌∙◌, subst}
 use mathlib.Core.List.{List, [], ◌∷◌}
 use mathlib.Core.Bool.{Bool, true, false, cond, ◌||◌, ◌&&◌, not, true≢false}
@@ -8,24 +8,23 @@ use lib.Dec.{eqb, leb, leb-zero, leb-suc-zero, leb-suc-suc}
 use lib.ListN.{drop, length, length-drop, replicate}
 use lib.Seq.{drop-drop}
 use native.Mathlib.Omega.{arith}
-use borrow.Author.Tests.{eqb-true, leb-false, le-leb}
+use borrow.Author.Tests.{eqb-true, leb-true, leb-false}
 use Rattle.tokenizer.specs.declared.event.Event.{Event}
 use Rattle.tokenizer.specs.Slots.{event_at, slots_of, cleared_from}
 use Rattle.tokenizer.proofs.Blanks.{slots_none, cleared_all}
 use Rattle.tokenizer.specs.Events.{GfmTableCellDivider, SpaceOrTab, blank_event}
 use Rattle.edit_map.specs.declared.resolve_turn.Phase.{Phase}
 use Rattle.edit_map.specs.declared.resolve_turn.Phase.TheVariants.{Out, Head, Row, Cell, Piece, Exit, Text, Copy, Leave, RowExit, HeadExit, End, EndExit, Open, BodyLeave, TableLeave}
-use Rattle.edit_map.specs.declared.resolve_base.Part.{Part}
-use Rattle.edit_map.specs.declared.resolve_base.Part.TheVariants.{Header, Delimiter, Body}
+use Rattle.gfm_table.specs.declared.stream.Part.{Part}
 use Rattle.edit_map.specs.declared.resolve_turn.Mode.{Mode}
 use Rattle.edit_map.specs.declared.resolve_turn.Turn.{Turn}
 use Rattle.edit_map.specs.declared.resolve_look.Look.{Look}
 use Rattle.edit_map.specs.declared.resolve_step.Cursor.{Cursor}
-use Rattle.edit_map.specs.Base.{most, plus_of, on_to, placed_at, is_row_name, is_text_name}
-use Rattle.edit_map.specs.Turns.{is_out, goes_on, plain, piece_turn, row_exit_turn, end_exit_turn, turn_in, turn_of}
+use Rattle.edit_map.specs.Base.{most, plus_of, placed_at, is_row_name, is_text_name}
+use Rattle.edit_map.specs.Turns.{goes_on, plain, piece_turn, row_exit_turn, end_exit_turn, turn_in, turn_of}
 use Rattle.edit_map.proofs.Stream.{first, rest, onward, ahead_of, solid_of, turn_at}
-use Rattle.edit_map.specs.Cursors.{more_of, moves, look_step, look_all, is_piece, asks, reads, next_place, resolve_step, look_of, step_at, stepped, cursor_at, cursor_after}
-use Rattle.edit_map.proofs.Gives.{Gives, none, more}
+use Rattle.edit_map.specs.Cursors.{moves, look_step, look_all, is_piece, asks, reads, next_at, is_over, over_at, resolve_step, look_of, step_at, front, stepped, cursor_after}
+use Rattle.edit_map.proofs.Gives.{is_last, Gives, none, more}
 use Rattle.edit_map.specs.Tables.{Table, raw_tables, resolved_tables}
 use Rattle.edit_map.specs.Raw.{AreTables}
 use Rattle.edit_map.proofs.Streams.{tables_give}
@@ -37,60 +36,7 @@ look_at es c = look_of es c (event_at es c.at)
 
 -- the turn that a step makes
 abbrev turn_here : List Event → Cursor → Turn
-turn_here es c = turn_of c.mode (event_at es c.at) (event_at es (next_place es c)) (look_at es c).ahead (look_at es c).solid
-
--- no record is left to give
-abbrev pub finished : List Event → Cursor → Bool
-finished es c = eqb (step_at es c).gave 0
-
--- ## Every turn gives one record, but where no table follows
-
-one_of : (b : Bool) (t u : Turn) → t.gave ≡ 1 → u.gave ≡ 1 → (cond b t u).gave ≡ 1
-one_of true t u p q = p
-one_of false t u p q = q
-
-none_or_one : (b : Bool) (t u : Turn) → t.gave ≡ 0 → u.gave ≡ 1 → (cond b t u).gave ≡ cond b 0 1
-none_or_one true t u p q = p
-none_or_one false t u p q = q
-
-row_one : (p : Part) (this next : Event) → (row_exit_turn p this next).gave ≡ 1
-row_one Header this next = refl
-row_one Delimiter this next = refl
-row_one Body this next = one_of (goes_on next) _ _ refl refl
-
-end-one : (p : Part) (this : Event) → (end_exit_turn p this).gave ≡ 1
-end-one Header this = refl
-end-one Delimiter this = refl
-end-one Body this = refl
-
-piece-one : (m : Mode) (this : Event) (a : ℕ) (s : Bool) → (piece_turn m this a s).gave ≡ 1
-unfolding piece_turn
-piece-one m this a s =
-    one_of (is_row_name this.name) _ _ refl
-    (one_of (m.seen && (eqb this.name GfmTableCellDivider && s)) _ _ refl
-    (one_of (m.waits && is_text_name this.name) _ _ refl refl))
-
-gave_in : (h : Phase) (m : Mode) (this next : Event) (a : ℕ) (s : Bool) → (turn_in h m this next a s).gave ≡ cond (is_out h && eqb this.kind 0) 0 1
-gave_in Out m this next a s = none_or_one (eqb this.kind 0) _ _ refl refl
-gave_in Head m this next a s = refl
-gave_in Row m this next a s = refl
-gave_in Cell m this next a s = refl
-gave_in Piece m this next a s = piece-one m this a s
-gave_in Exit m this next a s = refl
-gave_in Text m this next a s = refl
-gave_in Copy m this next a s = one_of (eqb m.left 0) _ _ refl refl
-gave_in Leave m this next a s = refl
-gave_in RowExit m this next a s = row_one m.part this next
-gave_in HeadExit m this next a s = one_of (goes_on next) _ _ refl refl
-gave_in End m this next a s = refl
-gave_in EndExit m this next a s = end-one m.part this
-gave_in Open m this next a s = refl
-gave_in BodyLeave m this next a s = refl
-gave_in TableLeave m this next a s = refl
-
-pub gave-is : (es : List Event) (c : Cursor) → (step_at es c).gave ≡ more_of c (event_at es c.at)
-unfolding resolve_step more_of
-gave-is es c = gave_in c.mode.phase c.mode (event_at es c.at) (event_at es (next_place es c)) (look_at es c).ahead (look_at es c).solid
+turn_here es c = turn_of c.mode (event_at es c.at) (next_at es c) (look_at es c).ahead (look_at es c).solid
 
 -- ## The record that a turn gives stands where the record at hand stands
 
@@ -102,14 +48,14 @@ either_stays this true t u p q = p
 either_stays this false t u p q = q
 
 row_stays : (p : Part) (this next : Event) → Stays this (row_exit_turn p this next)
-row_stays Header this next = refl
-row_stays Delimiter this next = refl
-row_stays Body this next = either_stays this (goes_on next) _ _ refl refl
+row_stays Part.Head this next = refl
+row_stays Part.Delimiter this next = refl
+row_stays Part.Body this next = either_stays this (goes_on next) _ _ refl refl
 
 end_stays : (p : Part) (this : Event) → Stays this (end_exit_turn p this)
-end_stays Header this = refl
-end_stays Delimiter this = refl
-end_stays Body this = refl
+end_stays Part.Head this = refl
+end_stays Part.Delimiter this = refl
+end_stays Part.Body this = refl
 
 piece-stays : (m : Mode) (this : Event) (a : ℕ) (s : Bool) → Stays this (piece_turn m this a s)
 unfolding piece_turn
@@ -119,7 +65,7 @@ piece-stays m this a s =
     (either_stays this (m.waits && is_text_name this.name) _ _ refl refl))
 
 stays_in : (h : Phase) (m : Mode) (this next : Event) (a : ℕ) (s : Bool) → Stays this (turn_in h m this next a s)
-stays_in Out m this next a s = either_stays this (eqb this.kind 0) _ _ refl refl
+stays_in Out m this next a s = refl
 stays_in Head m this next a s = refl
 stays_in Row m this next a s = refl
 stays_in Cell m this next a s = refl
@@ -138,7 +84,7 @@ stays_in TableLeave m this next a s = refl
 
 pub placed-is : (es : List Event) (c : Cursor) → placed_at (event_at es c.at) (step_at es c).event ≡ (step_at es c).event
 unfolding resolve_step
-placed-is es c = stays_in c.mode.phase c.mode (event_at es c.at) (event_at es (next_place es c)) (look_at es c).ahead (look_at es c).solid
+placed-is es c = stays_in c.mode.phase c.mode (event_at es c.at) (next_at es c) (look_at es c).ahead (look_at es c).solid
 
 -- ## As many slots as there were
 
@@ -149,20 +95,23 @@ cond_length false xs ys n p q = q
 pub as_many : (es : List Event) (c : Cursor) (ys : List Event) → length (stepped es c ys) ≡ length ys
 unfolding stepped
 as_many es c [] = refl
-as_many es c (y ∷ ys) = ap suc (cond_length (eqb (step_at es c).gave 0) ys (stepped es (step_at es c).next ys) (length ys) refl (as_many es (step_at es c).next ys))
+as_many es c (y ∷ ys) = cond_length (over_at es c) (y ∷ ys) ((step_at es c).event ∷ stepped es (step_at es c).next ys) (suc (length ys)) refl (ap suc (as_many es (step_at es c).next ys))
 
 -- ## Reading at a place
+
+pub plus_fits : (a b : ℕ) → a + b ≤ most → plus_of a b ≡ a + b
+plus_fits a b h = omega (arith, h)
 
 pub drop_past : (es : List Event) {n : ℕ} → length es ≤ n → drop n es ≡ []
 drop_past es h = lib.ListN.drop_of_length-le es h
 
 -- a place further on
 drop_plus : (es : List Event) (a b : ℕ) → length es ≤ most → drop (plus_of a b) es ≡ drop b (drop a es)
-drop_plus es a b h = go (leb b (most - a)) refl
+drop_plus es a b h = go (leb (a + b) most) refl ∙ sym (drop-drop b a es)
   where
-    go : (t : Bool) → leb b (most - a) ≡ t → drop (cond t (a + b) most) es ≡ drop b (drop a es)
-    go true e = sym (drop-drop b a es)
-    go false e = drop_past es h ∙ sym (drop-drop b a es ∙ drop_past es {n = a + b} (omega (arith, leb-false b (most - a) e)))
+    go : (t : Bool) → leb (a + b) most ≡ t → drop (plus_of a b) es ≡ drop (a + b) es
+    go true e = ap (λ (k : ℕ). drop k es) (plus_fits a b (leb-true (a + b) most e))
+    go false e = drop_past es (omega (arith, leb-false (a + b) most e)) ∙ sym (drop_past es (omega (arith, leb-false (a + b) most e)))
 
 event_at_lem : (es : List Event) (i : ℕ) → event_at es i ≡ first (drop i es)
 event_at_lem [] zero = refl
@@ -179,13 +128,7 @@ drop_two [] = refl
 drop_two (e ∷ []) = refl
 drop_two (e ∷ f ∷ es) = refl
 
-plus_none : (a : ℕ) → plus_of a 0 ≡ a
-plus_none a = rw (leb-zero (most - a)) (omega arith)
-
 -- ## The look ahead finds what the stream asks
-
-pub plus_fits : (a b : ℕ) → a + b ≤ most → plus_of a b ≡ a + b
-plus_fits a b h = rw (le-leb b (most - a) (omega arith))
 
 abbrev looking : Bool → ℕ → ℕ → Bool → Bool → Look
 looking b n a s f = record { on = b; count = n; ahead = a; solid = s; brief = f }
@@ -351,8 +294,8 @@ turn-same : (m : Mode) {x y z w : Event} {a b : ℕ} {s t : Bool} → x ≡ y �
 turn-same m p q r u = λ i. turn_of m (p i) (q i) (r i) (u i)
 
 module _ (es : List Event) (fits : length es ≤ most) where
-  next-at : (i : ℕ) → event_at es (plus_of i 1) ≡ first (rest (drop i es))
-  next-at i = event_at_lem es (plus_of i 1) ∙ ap first (drop_plus es i 1 fits ∙ drop-one (drop i es))
+  after-at : (i : ℕ) → event_at es (plus_of i 1) ≡ first (rest (drop i es))
+  after-at i = event_at_lem es (plus_of i 1) ∙ ap first (drop_plus es i 1 fits ∙ drop-one (drop i es))
 
   -- what is behind the piece at a place
   abbrev beyond : ℕ → List Event
@@ -368,10 +311,10 @@ module _ (es : List Event) (fits : length es ≤ most) where
   briefly_at i = rw (drop_plus es i 2 fits ∙ drop_two (drop i es)) (briefly (beyond i) 1 1 false)
 
   -- the turn with the next record read is that with the one that a step reads
-  read_is : (c : Cursor) (a : ℕ) (s : Bool) → turn_of c.mode (event_at es c.at) (event_at es (next_place es c)) a s ≡ turn_of c.mode (event_at es c.at) (event_at es (plus_of c.at 1)) a s
+  read_is : (c : Cursor) (a : ℕ) (s : Bool) → turn_of c.mode (event_at es c.at) (next_at es c) a s ≡ turn_of c.mode (event_at es c.at) (event_at es (plus_of c.at 1)) a s
   read_is c a s = go (reads c.mode.phase) refl
     where
-      go : (b : Bool) → reads c.mode.phase ≡ b → turn_of c.mode (event_at es c.at) (event_at es (on_to (not b) (plus_of c.at 1) (length es))) a s ≡ turn_of c.mode (event_at es c.at) (event_at es (plus_of c.at 1)) a s
+      go : (b : Bool) → reads c.mode.phase ≡ b → turn_of c.mode (event_at es c.at) (cond b (event_at es (plus_of c.at 1)) blank_event) a s ≡ turn_of c.mode (event_at es c.at) (event_at es (plus_of c.at 1)) a s
       go true e = refl
       go false e = unread c.mode (event_at es c.at) _ _ a s e
 
@@ -388,7 +331,7 @@ module _ (es : List Event) (fits : length es ≤ most) where
       look b f = cond b (look_all (looking true 1 1 false f) (drop (plus_of c.at 2) es)) (looking true 1 1 false f)
 
       there : (a : ℕ) (s : Bool) → a ≡ suc (ahead_of (beyond c.at)) → s ≡ solid_of (beyond c.at) → turn_of c.mode this next a s ≡ turn_at c.mode (drop c.at es)
-      there a s p q = turn-same c.mode (event_at_lem es c.at) (next-at c.at) p q
+      there a s p q = turn-same c.mode (event_at_lem es c.at) (after-at c.at) p q
 
       seen : (f : Bool) → eqb this.name GfmTableCellDivider ≡ f → turn_of c.mode this next (look true f).ahead (look true f).solid ≡ turn_at c.mode (drop c.at es)
       seen true e = undivided c.mode this next _ (suc (ahead_of (beyond c.at))) _ e ∙ there _ _ refl (briefly_at c.at)
@@ -409,59 +352,56 @@ module _ (es : List Event) (fits : length es ≤ most) where
   moves_on : {c : Cursor} {m : Mode} {l : List Event} → Stands c m l → Stands (moves c (turn_at m l)) (turn_at m l).mode (drop (turn_at m l).by l)
   moves_on {c} {m} {l} s = record { mode = refl; place = drop_plus es c.at (turn_at m l).by fits ∙ ap (λ (k : List Event). drop (turn_at m l).by k) s.place }
 
+  -- the stream is at its end
+  over-is : {c : Cursor} {m : Mode} {l : List Event} → Stands c m l → over_at es c ≡ is_last m l
+  over-is {c} s = ap (λ (e : Event). is_over c e) (event_at_lem es c.at) ∙ (λ i. is_last (s.mode i) (s.place i))
+
   -- ## The slots
 
-  fill_step : (y : Event) (ys : List Event) {c : Cursor} {m : Mode} {l : List Event} → Stands c m l → stepped es c (y ∷ ys) ≡ (turn_at m l).event ∷ cond (eqb (turn_at m l).gave 0) ys (stepped es (moves c (turn_at m l)) ys)
+  fill_step : (y : Event) (ys : List Event) {c : Cursor} {m : Mode} {l : List Event} → Stands c m l → is_last m l ≡ false → stepped es c (y ∷ ys) ≡ (turn_at m l).event ∷ stepped es (moves c (turn_at m l)) ys
   unfolding stepped resolve_step
-  fill_step y ys {c} s = ap (λ (t : Turn). t.event ∷ cond (eqb t.gave 0) ys (stepped es (moves c t) ys)) (turns s)
+  fill_step y ys {c} s e = rw (over-is s ∙ e) (ap (λ (t : Turn). t.event ∷ stepped es (moves c t) ys) (turns s))
 
   -- where there are slots for all records that are to be given, these stand in them, once the slots behind are cleared
-  pub fills : {m : Mode} {l out : List Event} → Gives m l out (plain Out Header) [] → {c : Cursor} → Stands c m l → (ys : List Event) → length out ≤ length ys → cleared_from (length out) (stepped es c ys) ≡ slots_of (length ys) out
+  pub fills : {m : Mode} {l out : List Event} → Gives m l out (plain Out Part.Head) [] → {c : Cursor} → Stands c m l → (ys : List Event) → length out ≤ length ys → cleared_from (length out) (stepped es c ys) ≡ slots_of (length ys) out
   unfolding cleared_from slots_of
   fills none {c} s ys h = cleared_all (stepped es c ys) ∙ ap (λ (k : ℕ). replicate k blank_event) (as_many es c ys) ∙ sym (slots_none (length ys))
   fills (more e g) s [] h = absurd (omega arith)
   fills (more {m = m} {es = l} {out = out} e g) {c} s (y ∷ ys) h =
-      ap (cleared_from (suc (length out))) (fill_step y ys s ∙ ap (λ (k : ℕ). (turn_at m l).event ∷ cond (eqb k 0) ys (stepped es (moves c (turn_at m l)) ys)) e)
+      ap (cleared_from (suc (length out))) (fill_step y ys s e)
       ∙ ap (λ (r : List Event). (turn_at m l).event ∷ r) (fills g (moves_on s) ys (omega arith))
 
   -- ## The end, and the number of records given
 
-  after-step : (n : ℕ) {c : Cursor} {m : Mode} {l : List Event} → Stands c m l → cursor_after es (suc n) c ≡ cond (eqb (turn_at m l).gave 0) (moves c (turn_at m l)) (cursor_after es n (moves c (turn_at m l)))
+  after_one : (n : ℕ) {c : Cursor} {m : Mode} {l : List Event} → Stands c m l → is_last m l ≡ false → cursor_after es (suc n) c ≡ cursor_after es n (moves c (turn_at m l))
   unfolding cursor_after resolve_step
-  after-step n {c} s = ap (λ (t : Turn). cond (eqb t.gave 0) (moves c t) (cursor_after es n (moves c t))) (turns s)
-
-  after_one : (n : ℕ) {c : Cursor} {m : Mode} {l : List Event} → Stands c m l → (turn_at m l).gave ≡ 1 → cursor_after es (suc n) c ≡ cursor_after es n (moves c (turn_at m l))
-  after_one n {c} {m} {l} s e = after-step n s ∙ ap (λ (k : ℕ). cond (eqb k 0) (moves c (turn_at m l)) (cursor_after es n (moves c (turn_at m l)))) e
-
-  ended : {c : Cursor} → Stands c (plain Out Header) [] → finished es c ≡ true
-  unfolding resolve_step
-  ended s = ap (λ (t : Turn). eqb t.gave 0) (turns s)
+  after_one n {c} s e = rw (over-is s ∙ e) (ap (λ (t : Turn). cursor_after es n (moves c t)) (turns s))
 
   -- n slots after the end
-  idles : (n : ℕ) {c : Cursor} → Stands c (plain Out Header) [] → (finished es (cursor_after es n c) ≡ true) × ((cursor_after es n c).given ≡ c.given)
+  idles : (n : ℕ) {c : Cursor} → over_at es c ≡ true → cursor_after es n c ≡ c
   unfolding cursor_after
-  idles zero s = (ended s, refl)
-  idles (suc n) {c} s = rw (after-step n s) (ended (moves_on s), plus_none c.given)
+  idles zero o = refl
+  idles (suc n) o = rw o
 
   -- n slots where some records are to be given
-  counts : (n : ℕ) {m : Mode} {l out : List Event} → Gives m l out (plain Out Header) [] → {c : Cursor} → Stands c m l → c.given + n ≤ most
-      → (finished es (cursor_after es n c) ≡ leb (length out) n) × (length out ≤ n → (cursor_after es n c).given ≡ c.given + length out)
-  unfolding cursor_after resolve_step
-  counts n none s h = ((idles n s).0 ∙ sym (leb-zero n), λ k. (idles n s).1 ∙ omega arith)
-  counts zero (more {out = out} e g) s h = (ap (λ (t : Turn). eqb t.gave 0) (turns s) ∙ rw e (sym (leb-suc-zero (length out))), λ k. absurd (omega arith))
+  counts : (n : ℕ) {m : Mode} {l out : List Event} → Gives m l out (plain Out Part.Head) [] → {c : Cursor} → Stands c m l → c.given + n ≤ most
+      → (over_at es (cursor_after es n c) ≡ leb (length out) n) × (length out ≤ n → (cursor_after es n c).given ≡ c.given + length out)
+  unfolding cursor_after
+  counts n none {c} s h = rw (idles n {c = c} (over-is s)) (over-is s ∙ sym (leb-zero n), λ k. omega arith)
+  counts zero (more {out = out} e g) s h = (over-is s ∙ e ∙ sym (leb-suc-zero (length out)), λ k. absurd (omega arith))
   counts (suc n) (more {m = m} {es = l} {out = out} e g) {c} s h =
-      let one : plus_of c.given (turn_at m l).gave ≡ c.given + 1 = rw e (plus_fits c.given 1 (omega arith)) in
+      let one : plus_of c.given 1 ≡ c.given + 1 = plus_fits c.given 1 (omega arith) in
       let ih = counts n g (moves_on s) (rw one (omega arith)) in
       rw (after_one n s e) (ih.0 ∙ sym (leb-suc-suc (length out) n), λ k. ih.1 (omega arith) ∙ rw one (omega arith))
 
 -- ## The resolver's stream: for a list of raw tables, what it gives, when it is done, and how many records it gave
 pub record Resolves (es out ys : List Event) : Type 0 where
-  pub records : length out ≤ length ys → cleared_from (length out) (stepped es (cursor_at 0) ys) ≡ slots_of (length ys) out
-  pub done : finished es (cursor_after es (length ys) (cursor_at 0)) ≡ leb (length out) (length ys)
-  pub count : length out ≤ length ys → (cursor_after es (length ys) (cursor_at 0)).given ≡ length out
+  pub records : length out ≤ length ys → cleared_from (length out) (stepped es front ys) ≡ slots_of (length ys) out
+  pub done : over_at es (cursor_after es (length ys) front) ≡ leb (length out) (length ys)
+  pub count : length out ≤ length ys → (cursor_after es (length ys) front).given ≡ length out
 
 pub resolves : {ts : List Table} → AreTables ts → length (raw_tables ts) ≤ most → (ys : List Event) → length ys ≤ most → Resolves (raw_tables ts) (resolved_tables ts) ys
 resolves {ts} h fits ys small =
-    let s : Stands (raw_tables ts) fits (cursor_at 0) (plain Out Header) (raw_tables ts) = record { mode = refl; place = refl } in
+    let s : Stands (raw_tables ts) fits front (plain Out Part.Head) (raw_tables ts) = record { mode = refl; place = refl } in
     let c = counts (raw_tables ts) fits (length ys) (tables_give h) s (omega arith) in
     record { records = fills (raw_tables ts) fits (tables_give h) s ys; done = c.0; count = λ k. c.1 k ∙ omega arith }

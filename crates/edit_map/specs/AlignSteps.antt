@@ -1,20 +1,40 @@
 -- The alignments of a table, record by record.
-use Rattle.std.specs.Prelude.{ℕ, zero, suc, List, [], ◌∷◌, Bool, true, false, cond, ◌||◌, ◌&&◌, not, eqb, drop}
+use Rattle.std.specs.Prelude.{ℕ, zero, suc, List, [], ◌∷◌, Bool, true, false, cond, ◌||◌, drop, Option, Some, None, is_some}
 use Rattle.tokenizer.specs.declared.event.Event.{Event}
 use Rattle.tokenizer.specs.Events.{GfmTable, GfmTableDelimiterCellValue, GfmTableDelimiterRow}
 use Rattle.edit_map.specs.declared.infer_step.Stage.{Stage}
 use Rattle.edit_map.specs.declared.infer_step.Stage.TheVariants.{Opening, Seeking, Outside, Entered, Inside, Found, Failed}
 use Rattle.edit_map.specs.declared.infer_step.Aligning.{Aligning}
+use Rattle.edit_map.specs.declared.infer_step.Alignment.{Alignment}
 use Rattle.edit_map.specs.Base.{plus_of}
-use Rattle.edit_map.specs.Align.{is_entry, is_exit, is_marker, aligned}
+use Rattle.edit_map.specs.Align.{is_entry, is_exit, is_marker}
+
+-- the alignment of a value, by the markers in front and behind
+abbrev pub alignment_of : Bool → Bool → Alignment
+alignment_of true true = Alignment.Center
+alignment_of true false = Alignment.Left
+alignment_of false true = Alignment.Right
+alignment_of false false = Alignment.None
+
+-- its number
+abbrev pub number_of : Alignment → ℕ
+number_of Alignment.None = 1
+number_of Alignment.Left = 2
+number_of Alignment.Right = 3
+number_of Alignment.Center = 4
+
+-- what a slot holds of it, or of none
+abbrev pub slot_of : Option Alignment → ℕ
+slot_of None = 0
+slot_of (Some a) = number_of a
 
 -- a record that gives no alignment
 abbrev pub still : Stage → Bool → Aligning → Event → Aligning
-still g f s e = record { stage = g; front = f; last = is_marker e; given = 0; count = s.count; at = plus_of s.at 1 }
+still g f s e = record { stage = g; front = f; last = is_marker e; given = None; count = s.count; at = plus_of s.at 1 }
 
 -- a value is left: it gives its alignment
 abbrev pub gives : Bool → Aligning → Event → Aligning
-gives f s e = record { stage = Outside; front = false; last = is_marker e; given = aligned f s.last; count = plus_of s.count 1; at = plus_of s.at 1 }
+gives f s e = record { stage = Outside; front = false; last = is_marker e; given = Some (alignment_of f s.last); count = plus_of s.count 1; at = plus_of s.at 1 }
 
 -- a record inside a value that has a marker in front, or not
 abbrev pub value_step : Bool → Aligning → Event → Aligning
@@ -46,46 +66,41 @@ align_step s e = align_in s.stage s e
 
 -- a stage before the record at a place
 abbrev pub start_at : Stage → ℕ → Aligning
-start_at g i = record { stage = g; front = false; last = false; given = 0; count = 0; at = i }
+start_at g i = record { stage = g; front = false; last = false; given = None; count = 0; at = i }
 
 -- the same state, its last alignment taken
 abbrev pub fresh : Aligning → Aligning
-fresh s = record { stage = s.stage; front = s.front; last = s.last; given = 0; count = s.count; at = s.at }
+fresh s = record { stage = s.stage; front = s.front; last = s.last; given = None; count = s.count; at = s.at }
 
 -- the delimiter row was read to its end
 abbrev pub is_found : Stage → Bool
-is_found Opening = false
-is_found Seeking = false
-is_found Outside = false
-is_found Entered = false
-is_found Inside = false
 is_found Found = true
-is_found Failed = false
+is_found _ = false
 
 -- no further record counts
 abbrev pub settled : Stage → Bool
-settled Opening = false
-settled Seeking = false
-settled Outside = false
-settled Entered = false
-settled Inside = false
 settled Found = true
 settled Failed = true
+settled _ = false
 
--- reading stops: at each alignment, or only where no further record counts
-abbrev pub stops : Bool → Aligning → Bool
-stops each s = settled s.stage || (each && not (eqb s.given 0))
+-- no further record counts
+abbrev pub done : Aligning → Bool
+done s = settled s.stage
+
+-- no further record counts, or the last one gave an alignment
+abbrev pub pauses : Aligning → Bool
+pauses s = settled s.stage || is_some s.given
 
 -- records read up to where reading stops
-unfoldable pub scan_all : Bool → Aligning → List Event → Aligning
-scan_all each s [] = s
-scan_all each s (e ∷ es) = cond (stops each s) s (scan_all each (align_step s e) es)
+unfoldable pub scan_all : (Aligning → Bool) → Aligning → List Event → Aligning
+scan_all off s [] = s
+scan_all off s (e ∷ es) = cond (off s) s (scan_all off (align_step s e) es)
 
 -- the same from the place that a state holds
-abbrev pub scan_of : List Event → Bool → Aligning → Aligning
-scan_of es each s = scan_all each (fresh s) (drop s.at es)
+abbrev pub scan_of : List Event → (Aligning → Bool) → Aligning → Aligning
+scan_of es off s = scan_all off (fresh s) (drop s.at es)
 
 -- the alignments that n slots take from a state on, 0 past the last
 unfoldable pub aligns_from : List Event → ℕ → Aligning → List ℕ
 aligns_from es zero s = []
-aligns_from es (suc n) s = (scan_of es true s).given ∷ aligns_from es n (scan_of es true s)
+aligns_from es (suc n) s = slot_of (scan_of es pauses s).given ∷ aligns_from es n (scan_of es pauses s)

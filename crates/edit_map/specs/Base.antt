@@ -1,5 +1,5 @@
 -- What the definitions of the resolver share.
-use Rattle.std.specs.Prelude.{ℕ, ◌+◌, ◌-◌, Bool, cond, ◌||◌, eqb, leb}
+use Rattle.std.specs.Prelude.{ℕ, ◌+◌, min, Bool, ◌||◌, eqb}
 use Rattle.tokenizer.specs.declared.event.Event.{Event}
 use Rattle.tokenizer.specs.Events.{Data, GfmTableRow, GfmTableDelimiterRow, GfmTableDelimiterMarker, GfmTableDelimiterFiller}
 
@@ -9,7 +9,7 @@ most = 18446744073709551615
 
 -- a sum that stops there
 abbrev pub plus_of : ℕ → ℕ → ℕ
-plus_of a b = cond (leb b (most - a)) (a + b) most
+plus_of a b = min (a + b) most
 
 -- the event e, at the point of the event o
 abbrev pub placed_at : Event → Event → Event
@@ -22,7 +22,3 @@ is_row_name n = eqb n GfmTableRow || eqb n GfmTableDelimiterRow
 -- the name of a cell's text, or of a part of a delimiter value
 abbrev pub is_text_name : ℕ → Bool
 is_text_name n = eqb n Data || eqb n GfmTableDelimiterMarker || eqb n GfmTableDelimiterFiller
-
--- the place to go on from, or the end n
-abbrev pub on_to : Bool → ℕ → ℕ → ℕ
-on_to b i n = cond b n i

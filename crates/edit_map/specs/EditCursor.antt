@@ -1,16 +1,11 @@
 -- The cursor over the result of edits that rise: the records that it has yet to give.
 use Rattle.std.specs.Prelude.{ℕ, zero, suc, ◌+◌, ◌-◌, ◌*◌, ◌≤◌, ◌<◌, ◌≡◌, List, [], ◌∷◌, ◌++◌, true, cond, eqb, length, get_or, take, drop}
 use Rattle.tokenizer.specs.declared.event.Event.{Event}
-use Rattle.tokenizer.specs.Events.{blank_event}
-use Rattle.tokenizer.specs.Slots.{event_at, slots_of}
 use Rattle.edit_order.specs.declared.edit_slots.Edit.{Edit}
 use Rattle.edit_map.specs.declared.edit_walk.Cursor.{Cursor}
 use Rattle.edit_map.specs.declared.edit_walk.Cursor.TheVariants.{Between, Back, Forth, Done}
 use Rattle.edit_map.specs.declared.edit_walk.Stepped.{Stepped}
 use Rattle.edit_map.specs.declared.edit_walk.Stepped.TheVariants as step
-use Rattle.edit_map.specs.declared.edit_walk.Origin.{Origin}
-use Rattle.edit_map.specs.declared.edit_walk.Origin.TheVariants as origin
-use Rattle.edit_map.specs.declared.edit_walk.Source.{Source}
 use Rattle.edit_order.specs.EditFives.{no_edit}
 use Rattle.edit_order.specs.Edits.{addition, edited, edits_fit}
 use Rattle.edit_order.specs.EditOrder.{Rises}
@@ -83,30 +78,8 @@ Ready len n es (Back i s k off next) = Ordered len n es (Back i s k off next)
 Ready len n es (Forth i k off next) = Ordered len n es (Forth i k off next)
 Ready len n es Done = Unit {0}
 
--- of any list and pool of these lengths: what is still to come at a cursor
-abbrev pub Comes : ℕ → ℕ → List Edit → Cursor → (List Event → List Event → List Event) → Type 0
-Comes len n es c f = (list pool : List Event) → length list ≡ len → length pool ≡ n → to_come list pool es c ≡ f list pool
-
 -- what a step tells of what is still to come
-abbrev pub Steps : ℕ → ℕ → List Edit → Cursor → Stepped → Type 0
-Steps len n es c (step.List i d) = (i < len) × Ready len n es d × Comes len n es c (λ list pool. event_at list i ∷ to_come list pool es d)
-Steps len n es c (step.Pool i d) = (i < n) × Ready len n es d × Comes len n es c (λ list pool. event_at pool i ∷ to_come list pool es d)
-Steps len n es c (step.On d) = (steps es d < steps es c) × Ready len n es d × Comes len n es c (λ list pool. to_come list pool es d)
-Steps len n es c step.End = Comes len n es c (λ list pool. [])
-
--- the record of the list, the one of the pool, or a blank one
-abbrev pub chosen : Origin → Event → Event → Event
-chosen origin.List a b = a
-chosen origin.Pool a b = b
-chosen origin.End a b = blank_event
-
--- the record at a source
-abbrev pub record_at : List Event → List Event → Source → Event
-record_at list pool s = chosen s.of (event_at list s.at) (event_at pool s.at)
-
--- the next record that is to come, and then those at the next cursor; behind the last, blank ones
-abbrev pub Gives : ℕ → ℕ → List Edit → Cursor → Source → Type 0
-Gives len n es c s =
-    Ready len n es s.next
-    × ((list pool : List Event) → length list ≡ len → length pool ≡ n
-    → (m : ℕ) → slots_of (suc m) (to_come list pool es c) ≡ record_at list pool s ∷ slots_of m (to_come list pool es s.next))
+abbrev pub Steps : List Event → List Event → List Edit → Cursor → Stepped → Type 0
+Steps list pool es c (step.Gives e d) = Ready (length list) (length pool) es d × (to_come list pool es c ≡ e ∷ to_come list pool es d)
+Steps list pool es c (step.On d) = (steps es d < steps es c) × Ready (length list) (length pool) es d × (to_come list pool es c ≡ to_come list pool es d)
+Steps list pool es c step.End = to_come list pool es c ≡ []

@@ -1,5 +1,6 @@
 pub mod EditAnswer
 pub mod EditCursor
+pub mod Records
 pub mod EditSettles
 pub mod Base
 pub mod Tables

@@ -1,33 +1,25 @@
 -- What the calls make of their passes over the list.
-use Rattle.std.specs.Prelude.{ℕ, cond, ◌&&◌, eqb, leb}
-use Rattle.edit_map.specs.declared.resolve_accept.Reading.{Reading}
+use Rattle.std.specs.Prelude.{ℕ, List, cond, leb, Result, Ok, Err}
+use Rattle.tokenizer.specs.declared.event.Event.{Event}
+use Rattle.tokenizer.specs.declared.refusal.Refusal.{Refusal}
 use Rattle.edit_map.specs.declared.resolve_step.Cursor.{Cursor}
-use Rattle.edit_map.specs.declared.resolve.Resolved.TheVariants as resolved
-use Rattle.edit_map.specs.declared.resolve.Judged.{Judged}
 use Rattle.edit_map.specs.declared.infer_step.Aligning.{Aligning}
-use Rattle.edit_map.specs.declared.infer_step.Stage.TheVariants.{Opening, Failed}
-use Rattle.edit_map.specs.declared.infer.Aligned.{Aligned}
-use Rattle.edit_map.specs.declared.infer.Aligned.TheVariants as aligned
-use Rattle.edit_map.specs.Base.{most}
-use Rattle.edit_map.specs.Accept.{accepted}
-use Rattle.edit_map.specs.Cursors.{cursor_at}
-use Rattle.edit_map.specs.AlignSteps.{start_at, is_found}
+use Rattle.edit_map.specs.Accept.{accepts}
+use Rattle.edit_map.specs.Cursors.{front, over_at, stepped, cursor_after}
+use Rattle.edit_map.specs.AlignSteps.{is_found}
 
--- the stream of an accepted list begins at its front, and that of another has nothing to give
-unfoldable pub stream_of : Reading → Cursor
-stream_of r = cursor_at (cond (accepted r) 0 most)
+-- the answer of a stream that stands at a cursor when all slots are filled: the records that it gave, where no more come
+abbrev pub streamed_to : List Event → Cursor → Result ℕ Refusal
+streamed_to es c = cond (over_at es c) (Ok c.given) (Err Refusal.TooFewResultSlots)
 
--- the answer, and how many slots stay, where the stream gave so many records and its next step gives one more or none
-unfoldable pub judge_of : Reading → ℕ → ℕ → Judged
-judge_of r given gave =
-    cond (accepted r)
-    (cond (eqb gave 0) (record { keep = given; answer = resolved.Accepted given }) (record { keep = 0; answer = resolved.Refused 12 }))
-    (record { keep = 0; answer = resolved.Refused 10 })
+-- the answer of the stream of a list, where it is accepted, over n slots
+unfoldable pub streamed : List Event → ℕ → Result ℕ Refusal
+streamed es n = cond (accepts es) (streamed_to es (cursor_after es n front)) (Err Refusal.NoRawTables)
 
--- the alignments are read again where they are found and have slots
-unfoldable pub again_of : Aligning → ℕ → ℕ → Aligning
-again_of s i n = start_at (cond (is_found s.stage && leb s.count n) Opening Failed) i
+-- the slots behind it; those of another list stay
+unfoldable pub streamed_slots : List Event → List Event → List Event
+streamed_slots es ys = cond (accepts es) (stepped es front ys) ys
 
 -- the answer, where a table was read to its end
-unfoldable pub told_of : Aligning → ℕ → Aligned
-told_of s n = cond (is_found s.stage) (cond (leb s.count n) (aligned.Accepted s.count) (aligned.Refused 14)) (aligned.Refused 13)
+unfoldable pub told_of : Aligning → ℕ → Result ℕ Refusal
+told_of s n = cond (is_found s.stage) (cond (leb s.count n) (Ok s.count) (Err Refusal.TooFewAlignmentSlots)) (Err Refusal.NoTableToAlign)

@@ -1,8 +1,10 @@
 // The records of the result, one after the other, over edits that rise and fit.
-ghost use Rattle.std.specs.Prelude.{◌≡◌, ◌<◌, ◌≤◌, ◌+◌, ◌^◌, length, drop};
+ghost use Rattle.std.specs.Prelude.{◌≡◌, ◌<◌, ◌≤◌, ◌^◌, length, drop};
 ghost use Rattle.edit_order.specs.EditSlots.{edits_of};
 ghost use Rattle.edit_order.specs.Edits.{removed};
-ghost use Rattle.edit_map.specs.EditCursor.{leading, chosen, Ready, Steps, Gives};
+ghost use Rattle.edit_map.specs.EditCursor.{leading, Ready, Steps};
+ghost use Rattle.edit_map.specs.Records.{left_of, CanGive, Gives};
+ghost use Rattle.std.specs.Iterator.{item_count};
 
 use edit_order::edit_slots;
 use tokenizer::event::Event;
@@ -17,40 +19,52 @@ pub struct Group {
 // Where the result is taken from next.
 #[derive(Clone, Copy)]
 pub enum Cursor {
-    // At, edit: position `at` of the list is next; the edits from number `edit` on are to come.
-    Between(usize, usize),
-    // Edit, size, left, off, next: of `size` edits at one position from number `edit` on, the additions that go before are next,
-    // those of the first `left` edits, the last first. Of the current one `off` records have come. The list goes on at `next`.
-    Back(usize, usize, usize, usize, usize),
-    // Edit, left, off, next: the other additions of `left` edits from number `edit` on are next, the first first.
-    Forth(usize, usize, usize, usize),
+    // Position `at` of the list is next; the edits from number `edit` on are to come.
+    Between {
+        at: usize,
+        edit: usize,
+    },
+    // Of `size` edits at one position from number `edit` on, the additions that go before are next, those of the first `left` edits, the
+    // last first. Of the current one `off` records have come. The list goes on at `next`.
+    Back {
+        edit: usize,
+        size: usize,
+        left: usize,
+        off: usize,
+        next: usize,
+    },
+    // The other additions of `left` edits from number `edit` on are next, the first first.
+    Forth {
+        edit: usize,
+        left: usize,
+        off: usize,
+        next: usize,
+    },
     // Nothing is to come.
     Done,
 }
 
-// A step of the cursor: a record of the list, a record of the pool, none, or the end.
+// A step of the cursor: a record and the cursor behind it, another cursor, or the end.
 #[derive(Clone, Copy)]
 pub enum Stepped {
-    List(usize, Cursor),
-    Pool(usize, Cursor),
+    Gives(Event, Cursor),
     On(Cursor),
     End,
 }
 
-// Whose record is next: the list's, the pool's, or none.
+// What a result is made of: a list, the edits of it, and the pool of what they add.
 #[derive(Clone, Copy)]
-pub enum Origin {
-    List,
-    Pool,
-    End,
+pub struct Walk<'a> {
+    pub list: &'a [Event],
+    pub edits: &'a [usize],
+    pub pool: &'a [Event],
 }
 
-// The next record of the result, by its index, and the cursor behind it.
+// The records of a result that are still to come.
 #[derive(Clone, Copy)]
-pub struct Source {
-    pub of: Origin,
-    pub at: usize,
-    pub next: Cursor,
+pub struct Records<'a> {
+    pub walk: Walk<'a>,
+    pub cursor: Cursor,
 }
 
 // The edits at one position, from edit i on.
@@ -58,156 +72,163 @@ fn gather(edits: &[usize], i: usize, at: usize) -> Group
     requires { (i ≤ length (edits_of edits.now)) × (removed (leading at (drop i (edits_of edits.now))) < 2 ^ 64) }
     ensures { (result.size ≡ length (leading at (drop i (edits_of edits.now)))) × (result.removes ≡ removed (leading at (drop i (edits_of edits.now)))) }
 {
-    let n = edit_slots::number(edits);
-    let mut j = i;
-    let mut sum = 0;
-    while j < n {
+    let mut g = Group {
+        size: 0,
+        removes: 0,
+    };
+    for j in i..edit_slots::number(edits) {
         let e = edit_slots::get(edits, j);
         if e.at != at {
-            return Group {
-                size: j - i,
-                removes: sum,
-            };
+            return g;
         }
-        sum += e.removes;
-        j += 1;
+        g = Group {
+            size: g.size + 1,
+            removes: g.removes + e.removes,
+        };
     }
-    Group {
-        size: j - i,
-        removes: sum,
-    }
+    g
 }
 
-// A step from position `at` of the list.
-fn between(edits: &[usize], at: usize, edit: usize, len: usize, pool: usize) -> Stepped
-    requires { Ready len pool (edits_of edits.now) (Cursor.Between at edit) }
-    ensures { Steps len pool (edits_of edits.now) (Cursor.Between at edit) result }
-{
-    if edit < edit_slots::number(edits) {
-        let e = edit_slots::get(edits, edit);
-        if e.at < at {
-            return Stepped::On(Cursor::Between(at, edit + 1));
-        }
-        if e.at == at {
-            let g = gather(edits, edit, at);
-            return Stepped::On(Cursor::Back(edit, g.size, g.size, 0, at + g.removes));
-        }
-    }
-    if at < len {
-        return Stepped::List(at, Cursor::Between(at + 1, edit));
-    }
-    Stepped::End
-}
-
-// A step over the additions that go before.
-fn back(
-    edits: &[usize],
-    edit: usize,
-    size: usize,
-    left: usize,
-    off: usize,
-    next: usize,
-    len: usize,
-    pool: usize,
-) -> Stepped
-    requires { Ready len pool (edits_of edits.now) (Cursor.Back edit size left off next) }
-    ensures { Steps len pool (edits_of edits.now) (Cursor.Back edit size left off next) result }
-{
-    if left == 0 {
-        return Stepped::On(Cursor::Forth(edit, size, 0, next));
-    }
-    let k = left - 1;
-    let e = edit_slots::get(edits, edit + k);
-    if e.before != 0 {
-        if off < e.adds {
-            return Stepped::Pool(e.from + off, Cursor::Back(edit, size, left, off + 1, next));
-        }
-    }
-    Stepped::On(Cursor::Back(edit, size, k, 0, next))
-}
-
-// A step over the other additions.
-fn forth(
-    edits: &[usize],
-    edit: usize,
-    left: usize,
-    off: usize,
-    next: usize,
-    len: usize,
-    pool: usize,
-) -> Stepped
-    requires { Ready len pool (edits_of edits.now) (Cursor.Forth edit left off next) }
-    ensures { Steps len pool (edits_of edits.now) (Cursor.Forth edit left off next) result }
-{
-    if left == 0 {
-        return Stepped::On(Cursor::Between(next, edit));
-    }
-    let k = left - 1;
-    let after = edit + 1;
-    let e = edit_slots::get(edits, edit);
-    if e.before == 0 {
-        if off < e.adds {
-            return Stepped::Pool(e.from + off, Cursor::Forth(edit, left, off + 1, next));
-        }
-    }
-    Stepped::On(Cursor::Forth(after, k, 0, next))
-}
-
-// One step: a record, or on to the next edit.
-fn step(edits: &[usize], c: Cursor, len: usize, pool: usize) -> Stepped
-    requires { Ready len pool (edits_of edits.now) c }
-    ensures { Steps len pool (edits_of edits.now) c result }
-{
-    match c {
-        Cursor::Between(at, edit) => between(edits, at, edit, len, pool),
-        Cursor::Back(edit, size, left, off, next) => {
-            back(edits, edit, size, left, off, next, len, pool)
-        }
-        Cursor::Forth(edit, left, off, next) => forth(edits, edit, left, off, next, len, pool),
-        Cursor::Done => Stepped::End,
-    }
-}
-
-// The next record of the result; behind the last, none.
-pub fn next(edits: &[usize], c: Cursor, len: usize, pool: usize) -> Source
-    requires { Ready len pool (edits_of edits.now) c }
-    ensures { Gives len pool (edits_of edits.now) c result }
-{
-    let mut d = c;
-    loop {
-        let s = step(edits, d, len, pool);
-        match s {
-            Stepped::On(f) => {
-                d = f;
+impl Walk<'_> {
+    // A step from position `at` of the list.
+    fn between(self, at: usize, edit: usize) -> Stepped
+        requires { Ready (length self.list.now) (length self.pool.now) (edits_of self.edits.now) (Cursor.Between at edit) }
+        ensures { Steps self.entry.list.now self.entry.pool.now (edits_of self.entry.edits.now) (Cursor.Between at edit) result }
+    {
+        if edit < edit_slots::number(self.edits) {
+            let e = edit_slots::get(self.edits, edit);
+            if e.at < at {
+                return Stepped::On(Cursor::Between { at, edit: edit + 1 });
             }
-            Stepped::List(at, next) => return Source {
-                of: Origin::List,
-                at,
-                next,
-            },
-            Stepped::Pool(at, next) => return Source {
-                of: Origin::Pool,
-                at,
-                next,
-            },
-            Stepped::End => {
-                return Source {
-                    of: Origin::End,
-                    at: 0,
-                    next: Cursor::Done,
-                };
+            if e.at == at {
+                let g = gather(self.edits, edit, at);
+                return Stepped::On(Cursor::Back {
+                    edit,
+                    size: g.size,
+                    left: g.size,
+                    off: 0,
+                    next: at + g.removes,
+                });
             }
         }
+        if at < self.list.len() {
+            return Stepped::Gives(self.list[at], Cursor::Between { at: at + 1, edit });
+        }
+        Stepped::End
+    }
+
+    // A step over the additions that go before.
+    fn back(self, edit: usize, size: usize, left: usize, off: usize, next: usize) -> Stepped
+        requires { Ready (length self.list.now) (length self.pool.now) (edits_of self.edits.now) (Cursor.Back edit size left off next) }
+        ensures { Steps self.entry.list.now self.entry.pool.now (edits_of self.entry.edits.now) (Cursor.Back edit size left off next) result }
+    {
+        if left == 0 {
+            return Stepped::On(Cursor::Forth {
+                edit,
+                left: size,
+                off: 0,
+                next,
+            });
+        }
+        let e = edit_slots::get(self.edits, edit + (left - 1));
+        if e.before != 0 && off < e.adds {
+            return Stepped::Gives(
+                self.pool[e.from + off],
+                Cursor::Back {
+                    edit,
+                    size,
+                    left,
+                    off: off + 1,
+                    next,
+                },
+            );
+        }
+        Stepped::On(Cursor::Back {
+            edit,
+            size,
+            left: left - 1,
+            off: 0,
+            next,
+        })
+    }
+
+    // A step over the other additions.
+    fn forth(self, edit: usize, left: usize, off: usize, next: usize) -> Stepped
+        requires { Ready (length self.list.now) (length self.pool.now) (edits_of self.edits.now) (Cursor.Forth edit left off next) }
+        ensures { Steps self.entry.list.now self.entry.pool.now (edits_of self.entry.edits.now) (Cursor.Forth edit left off next) result }
+    {
+        if left == 0 {
+            return Stepped::On(Cursor::Between { at: next, edit });
+        }
+        let e = edit_slots::get(self.edits, edit);
+        if e.before == 0 && off < e.adds {
+            return Stepped::Gives(
+                self.pool[e.from + off],
+                Cursor::Forth {
+                    edit,
+                    left,
+                    off: off + 1,
+                    next,
+                },
+            );
+        }
+        Stepped::On(Cursor::Forth {
+            edit: edit + 1,
+            left: left - 1,
+            off: 0,
+            next,
+        })
+    }
+
+    // One step: a record, or on to the next edit.
+    fn step(self, c: Cursor) -> Stepped
+        requires { Ready (length self.list.now) (length self.pool.now) (edits_of self.edits.now) c }
+        ensures { Steps self.entry.list.now self.entry.pool.now (edits_of self.entry.edits.now) c result }
+    {
+        match c {
+            Cursor::Between { at, edit } => self.between(at, edit),
+            Cursor::Back {
+                edit,
+                size,
+                left,
+                off,
+                next,
+            } => self.back(edit, size, left, off, next),
+            Cursor::Forth {
+                edit,
+                left,
+                off,
+                next,
+            } => self.forth(edit, left, off, next),
+            Cursor::Done => Stepped::End,
+        }
     }
 }
 
-// The record at a source, of those of the list and of the pool there.
-pub fn choose(of: Origin, a: Event, b: Event) -> Event
-    ensures { result ≡ chosen of a b }
-{
-    match of {
-        Origin::List => a,
-        Origin::Pool => b,
-        Origin::End => Event::blank(),
+impl Iterator for Records<'_> {
+    type Item = Event;
+
+    ghost can_next = { CanGive };
+
+    ghost next_gives = { Gives };
+
+    ghost remaining = { λ s. item_count left_of s };
+
+    // The next record, if one is to come.
+    fn next(&mut self) -> Option<Event> {
+        let walk = self.walk;
+        let mut c = self.cursor;
+        loop {
+            match walk.step(c) {
+                Stepped::Gives(e, next) => {
+                    self.cursor = next;
+                    return Some(e);
+                }
+                Stepped::On(next) => {
+                    c = next;
+                }
+                Stepped::End => return None,
+            }
+        }
     }
 }

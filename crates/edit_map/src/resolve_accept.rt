@@ -1,14 +1,17 @@
 // Question 10, record by record: whether a list is made of raw tables.
 ghost use Rattle.std.specs.Prelude.{◌≡◌, cond};
 ghost use Rattle.tokenizer.specs.Events;
+ghost use Rattle.gfm_table.specs.declared.stream.Part.TheVariants as Part;
+ghost use Rattle.gfm_table.specs.Stream.{name_of};
 ghost use Rattle.edit_map.specs.Raw.{enters, leaves, row_piece, delimiter_piece};
-ghost use Rattle.edit_map.specs.Accept.{row_name, piece_of, at, refused, ending, entry_of, after_row, read_in, read_step, whole, accepted};
+ghost use Rattle.edit_map.specs.Accept.{piece_of, at, refused, ending, entry_of, after_row, read_in, read_step, whole, accepted};
 
-use crate::resolve_base::{Part, both, either};
+use crate::resolve_base::{is_entry, is_exit};
+use gfm_table::stream::{Part, row_name};
 use tokenizer::event::{Event, Name};
 
 // How far a list of raw tables is read.
-#[derive(Clone, Copy)]
+#[derive(Clone, Copy, PartialEq, Eq)]
 pub enum Place {
     Start,
     Entry,
@@ -20,60 +23,43 @@ pub enum Place {
     Refused,
 }
 
-// The place in a table, the row that is read or comes next, and the name of what is to be left next, or 0.
+// The place in a table, the row that is read or comes next, and the name of what is to be left next, if anything is.
 #[derive(Clone, Copy)]
 pub struct Reading {
     pub place: Place,
     pub part: Part,
-    pub due: u8,
+    pub due: Option<u8>,
 }
 
 // A record that enters the name n, its link a known code.
 fn enters(n: u8, e: Event) -> bool
     ensures { result ≡ enters n e }
 {
-    both(e.kind == 1, both(e.name == n, e.link <= 1))
+    is_entry(n, e) && e.link <= 1
 }
 
 // A record that leaves the name n, its link a known code.
 fn leaves(n: u8, e: Event) -> bool
     ensures { result ≡ leaves n e }
 {
-    both(e.kind == 2, both(e.name == n, e.link <= 1))
-}
-
-// The name of a row.
-fn row_name(p: Part) -> u8
-    ensures { result ≡ row_name p }
-{
-    match p {
-        Part::Header => Name::GfmTableRow,
-        Part::Delimiter => Name::GfmTableDelimiterRow,
-        Part::Body => Name::GfmTableRow,
-    }
+    is_exit(n, e) && e.link <= 1
 }
 
 // Whether a row may hold pieces of the name n.
 fn row_piece(n: u8) -> bool
     ensures { result ≡ row_piece n }
 {
-    either(
-        either(n == Name::SpaceOrTab, n == Name::GfmTableCellDivider),
-        n == Name::Data,
-    )
+    n == Name::SpaceOrTab || n == Name::GfmTableCellDivider || n == Name::Data
 }
 
 // Whether a delimiter row may hold pieces of the name n.
 fn delimiter_piece(n: u8) -> bool
     ensures { result ≡ delimiter_piece n }
 {
-    either(
-        either(n == Name::SpaceOrTab, n == Name::GfmTableCellDivider),
-        either(
-            n == Name::GfmTableDelimiterMarker,
-            n == Name::GfmTableDelimiterFiller,
-        ),
-    )
+    n == Name::SpaceOrTab
+        || n == Name::GfmTableCellDivider
+        || n == Name::GfmTableDelimiterMarker
+        || n == Name::GfmTableDelimiterFiller
 }
 
 // Whether a row of this kind may hold pieces of the name n.
@@ -81,42 +67,30 @@ fn piece_of(p: Part, n: u8) -> bool
     ensures { result ≡ piece_of p n }
 {
     match p {
-        Part::Header => row_piece(n),
+        Part::Head | Part::Body => row_piece(n),
         Part::Delimiter => delimiter_piece(n),
-        Part::Body => row_piece(n),
     }
 }
 
 // A place where nothing is to be left.
-fn placed(l: Place, p: Part) -> Reading
-    ensures { result ≡ at l p }
+fn at(place: Place, part: Part) -> Reading
+    ensures { result ≡ at place part }
 {
     Reading {
-        place: l,
-        part: p,
-        due: 0,
-    }
-}
-
-// No raw table.
-fn refused() -> Reading
-    ensures { result ≡ refused }
-{
-    Reading {
-        place: Place::Refused,
-        part: Part::Header,
-        due: 0,
+        place,
+        part,
+        due: None,
     }
 }
 
 // A line end is entered, before a row.
-fn ending(p: Part) -> Reading
-    ensures { result ≡ ending p }
+fn ending(part: Part) -> Reading
+    ensures { result ≡ ending part }
 {
     Reading {
         place: Place::Entry,
-        part: p,
-        due: Name::LineEnding,
+        part,
+        due: Some(Name::LineEnding),
     }
 }
 
@@ -124,20 +98,20 @@ fn ending(p: Part) -> Reading
 fn passing(b: bool, r: Reading) -> Reading
     ensures { result ≡ cond b r refused }
 {
-    if b { r } else { refused() }
+    if b { r } else { Reading::REFUSED }
 }
 
 // A piece is entered.
-fn entry_of(p: Part, e: Event) -> Reading
-    ensures { result ≡ entry_of p e }
+fn entry_of(part: Part, e: Event) -> Reading
+    ensures { result ≡ entry_of part e }
 {
     let n = e.name;
     passing(
-        both(piece_of(p, n), enters(n, e)),
+        piece_of(part, n) && enters(n, e),
         Reading {
             place: Place::Within,
-            part: p,
-            due: n,
+            part,
+            due: Some(n),
         },
     )
 }
@@ -147,27 +121,15 @@ fn after_row(p: Part) -> Reading
     ensures { result ≡ after_row p }
 {
     match p {
-        Part::Header => Reading {
-            place: Place::Between,
-            part: Part::Header,
-            due: 0,
-        },
-        Part::Delimiter => Reading {
-            place: Place::HeadLeave,
-            part: Part::Delimiter,
-            due: 0,
-        },
-        Part::Body => Reading {
-            place: Place::Closed,
-            part: Part::Header,
-            due: 0,
-        },
+        Part::Head => at(Place::Between, Part::Head),
+        Part::Delimiter => at(Place::HeadLeave, Part::Delimiter),
+        Part::Body => at(Place::Closed, Part::Head),
     }
 }
 
 // The row is left, or a piece is entered.
 fn within(p: Part, e: Event) -> Reading
-    ensures { result ≡ cond (leaves (row_name p) e) (after_row p) (entry_of p e) }
+    ensures { result ≡ cond (leaves (name_of p) e) (after_row p) (entry_of p e) }
 {
     if leaves(row_name(p), e) {
         after_row(p)
@@ -176,17 +138,21 @@ fn within(p: Part, e: Event) -> Reading
     }
 }
 
+// A table is entered.
+fn head_entry(e: Event) -> Reading
+    ensures { result ≡ cond (enters Events.GfmTableHead e) (at Place.Entry Part.Head) refused }
+{
+    passing(enters(Name::GfmTableHead, e), at(Place::Entry, Part::Head))
+}
+
 // A body row follows, or another table.
 fn closed(e: Event) -> Reading
-    ensures { result ≡ cond (enters Events.LineEnding e) (ending Part.Body) (cond (enters Events.GfmTableHead e) (at Place.Entry Part.Header) refused) }
+    ensures { result ≡ cond (enters Events.LineEnding e) (ending Part.Body) (cond (enters Events.GfmTableHead e) (at Place.Entry Part.Head) refused) }
 {
     if enters(Name::LineEnding, e) {
         ending(Part::Body)
     } else {
-        passing(
-            enters(Name::GfmTableHead, e),
-            placed(Place::Entry, Part::Header),
-        )
+        head_entry(e)
     }
 }
 
@@ -195,64 +161,46 @@ fn read_in(l: Place, p: Part, e: Event) -> Reading
     ensures { result ≡ read_in l p e }
 {
     match l {
-        Place::Start => passing(
-            enters(Name::GfmTableHead, e),
-            placed(Place::Entry, Part::Header),
-        ),
-        Place::Entry => passing(enters(row_name(p), e), placed(Place::Fresh, p)),
+        Place::Start => head_entry(e),
+        Place::Entry => passing(enters(row_name(p), e), at(Place::Fresh, p)),
         Place::Fresh => entry_of(p, e),
         Place::Within => within(p, e),
         Place::Between => passing(enters(Name::LineEnding, e), ending(Part::Delimiter)),
-        Place::HeadLeave => passing(
-            leaves(Name::GfmTableHead, e),
-            placed(Place::Closed, Part::Header),
-        ),
+        Place::HeadLeave => passing(leaves(Name::GfmTableHead, e), at(Place::Closed, Part::Head)),
         Place::Closed => closed(e),
-        Place::Refused => refused(),
+        Place::Refused => Reading::REFUSED,
     }
 }
 
-// Before the first record.
-pub fn accept_start() -> Reading
-    ensures { result ≡ at Place.Start Part.Header }
-{
-    placed(Place::Start, Part::Header)
-}
+impl Reading {
+    // Before the first record.
+    pub const START: Reading = Reading {
+        place: Place::Start,
+        part: Part::Head,
+        due: None,
+    };
 
-// One record more.
-pub fn accept_step(r: Reading, e: Event) -> Reading
-    ensures { result ≡ read_step r e }
-{
-    let l = r.place;
-    let p = r.part;
-    let due = r.due;
-    if due == 0 {
-        read_in(l, p, e)
-    } else {
-        passing(leaves(due, e), placed(l, p))
+    // No raw table.
+    pub const REFUSED: Reading = Reading {
+        place: Place::Refused,
+        part: Part::Head,
+        due: None,
+    };
+
+    // One record more.
+    pub fn step(self, e: Event) -> Self
+        ensures { result ≡ read_step self e }
+    {
+        match self.due {
+            None => read_in(self.place, self.part, e),
+            Some(n) => passing(leaves(n, e), at(self.place, self.part)),
+        }
     }
-}
 
-// Whether a list of raw tables may end at a place.
-fn is_whole(l: Place) -> bool
-    ensures { result ≡ whole l }
-{
-    match l {
-        Place::Start => true,
-        Place::Entry => false,
-        Place::Fresh => false,
-        Place::Within => false,
-        Place::Between => false,
-        Place::HeadLeave => false,
-        Place::Closed => true,
-        Place::Refused => false,
+    // Whether the records read so far are raw tables.
+    pub fn is_accepted(self) -> bool
+        ensures { result ≡ accepted self }
+    {
+        self.due.is_none() && (self.place == Place::Start || self.place == Place::Closed)
     }
-}
-
-// Whether the records read so far are raw tables.
-pub fn is_accepted(r: Reading) -> bool
-    ensures { result ≡ accepted r }
-{
-    let l = r.place;
-    both(r.due == 0, is_whole(l))
 }

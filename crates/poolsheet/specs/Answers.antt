@@ -1,15 +1,10 @@
 -- For each case of each answer, the number that is returned, and the counts that are written: 0 and the counts where accepted, the refusal's number and zeros where refused.
-use Rattle.std.specs.Prelude.{ℕ, List, [], ◌∷◌}
+use Rattle.std.specs.Prelude.{ℕ, List, [], ◌∷◌, Result, Ok, Err}
 use Rattle.gfm_table.specs.declared.calls.Head.{Head}
 use Rattle.gfm_table.specs.declared.calls.Head.TheVariants as head
 use Rattle.gfm_table.specs.declared.calls.Row.{Row}
 use Rattle.gfm_table.specs.declared.calls.Row.TheVariants as row
-use Rattle.edit_map.specs.declared.resolve.Resolved.{Resolved}
-use Rattle.edit_map.specs.declared.resolve.Resolved.TheVariants as resolved
-use Rattle.edit_map.specs.declared.edit_map.Edited.{Edited}
-use Rattle.edit_map.specs.declared.edit_map.Edited.TheVariants as edited
-use Rattle.edit_map.specs.declared.infer.Aligned.{Aligned}
-use Rattle.edit_map.specs.declared.infer.Aligned.TheVariants as aligned
+use Rattle.tokenizer.specs.declared.refusal.Refusal.{Refusal}
 use Rattle.sheet.specs.declared.calls.Sheet.{Sheet}
 use Rattle.sheet.specs.declared.calls.Sheet.TheVariants as sheet
 
@@ -33,35 +28,10 @@ abbrev pub counts_of_row : Row → List ℕ
 counts_of_row (row.Refused k) = 0 ∷ 0 ∷ []
 counts_of_row (row.Accepted events end) = events ∷ end ∷ []
 
--- the number of a resolver's answer
-abbrev pub number_of_resolved : Resolved → ℕ
-number_of_resolved (resolved.Refused k) = k
-number_of_resolved (resolved.Accepted events) = 0
-
--- result events
-abbrev pub counts_of_resolved : Resolved → List ℕ
-counts_of_resolved (resolved.Refused k) = 0 ∷ []
-counts_of_resolved (resolved.Accepted events) = events ∷ []
-
--- the number of an edit's answer
-abbrev pub number_of_edited : Edited → ℕ
-number_of_edited (edited.Refused k) = k
-number_of_edited (edited.Accepted events) = 0
-
--- result events
-abbrev pub counts_of_edited : Edited → List ℕ
-counts_of_edited (edited.Refused k) = 0 ∷ []
-counts_of_edited (edited.Accepted events) = events ∷ []
-
--- the number of an alignment's answer
-abbrev pub number_of_aligned : Aligned → ℕ
-number_of_aligned (aligned.Refused k) = k
-number_of_aligned (aligned.Accepted alignments) = 0
-
--- alignments
-abbrev pub counts_of_aligned : Aligned → List ℕ
-counts_of_aligned (aligned.Refused k) = 0 ∷ []
-counts_of_aligned (aligned.Accepted alignments) = alignments ∷ []
+-- result events, or alignments
+abbrev pub count_of : Result ℕ Refusal → List ℕ
+count_of (Err r) = 0 ∷ []
+count_of (Ok n) = n ∷ []
 
 -- the number of a sheet's answer
 abbrev pub number_of_sheet : Sheet → ℕ

@@ -1,12 +1,28 @@
 // The answers of the six calls as numbers: 0 or the refusal's number, and the counts, all 0 where refused.
 ghost use Rattle.std.specs.Prelude.{◌≡◌};
-ghost use Rattle.poolsheet.specs.Answers.{number_of_head, counts_of_head, number_of_row, counts_of_row, number_of_resolved, counts_of_resolved, number_of_edited, counts_of_edited, number_of_aligned, counts_of_aligned, number_of_sheet, counts_of_sheet};
+ghost use Rattle.tokenizer.specs.Refusals.{answer_number};
+ghost use Rattle.poolsheet.specs.Answers.{number_of_head, counts_of_head, number_of_row, counts_of_row, count_of, number_of_sheet, counts_of_sheet};
 
-use edit_map::edit_map::Edited;
-use edit_map::infer::Aligned;
-use edit_map::resolve::Resolved;
 use gfm_table::calls::{Head, Row};
 use sheet::calls::Sheet;
+use tokenizer::refusal::Refusal;
+
+// The number of an answer: 0, or the refusal's number.
+pub fn number<T: Drop>(a: Result<T, Refusal>) -> u8
+    ensures { result ≡ answer_number a }
+{
+    match a {
+        Ok(_) => 0,
+        Err(r) => r.number(),
+    }
+}
+
+// Result events, or alignments.
+pub fn count(a: Result<usize, Refusal>) -> [usize; 1]
+    ensures { result ≡ count_of a }
+{
+    [a.unwrap_or(0)]
+}
 
 // The number of a head's answer.
 pub fn head_number(a: Head) -> u8
@@ -45,66 +61,6 @@ pub fn row_counts(a: Row) -> [usize; 2]
     match a {
         Row::Refused(k) => [0, 0],
         Row::Accepted { events, end } => [events, end],
-    }
-}
-
-// The number of a resolver's answer.
-pub fn resolve_number(a: Resolved) -> u8
-    ensures { result ≡ number_of_resolved a }
-{
-    match a {
-        Resolved::Refused(k) => k,
-        Resolved::Accepted(n) => 0,
-    }
-}
-
-// Result events.
-pub fn resolve_counts(a: Resolved) -> [usize; 1]
-    ensures { result ≡ counts_of_resolved a }
-{
-    match a {
-        Resolved::Refused(k) => [0],
-        Resolved::Accepted(n) => [n],
-    }
-}
-
-// The number of an edit's answer.
-pub fn edit_number(a: Edited) -> u8
-    ensures { result ≡ number_of_edited a }
-{
-    match a {
-        Edited::Refused(k) => k,
-        Edited::Accepted(n) => 0,
-    }
-}
-
-// Result events.
-pub fn edit_counts(a: Edited) -> [usize; 1]
-    ensures { result ≡ counts_of_edited a }
-{
-    match a {
-        Edited::Refused(k) => [0],
-        Edited::Accepted(n) => [n],
-    }
-}
-
-// The number of an alignment's answer.
-pub fn align_number(a: Aligned) -> u8
-    ensures { result ≡ number_of_aligned a }
-{
-    match a {
-        Aligned::Refused(k) => k,
-        Aligned::Accepted(n) => 0,
-    }
-}
-
-// Alignments.
-pub fn align_counts(a: Aligned) -> [usize; 1]
-    ensures { result ≡ counts_of_aligned a }
-{
-    match a {
-        Aligned::Refused(k) => [0],
-        Aligned::Accepted(n) => [n],
     }
 }
 

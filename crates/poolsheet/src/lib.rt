@@ -7,11 +7,11 @@ ghost use Rattle.gfm_table.specs.Calls.{head_of, head_slots, row_of, row_slots};
 ghost use Rattle.edit_map.specs.Answers.{resolve_answer, resolve_slots, align_answer, align_slots};
 ghost use Rattle.edit_map.specs.EditAnswer.{edit_answer, edit_slots, edit_results};
 ghost use Rattle.sheet.specs.Calls.{sheet_of, sheet_raw, sheet_results, sheet_aligned};
-ghost use Rattle.poolsheet.specs.Answers.{number_of_head, counts_of_head, number_of_row, counts_of_row, number_of_resolved, counts_of_resolved, number_of_edited, counts_of_edited, number_of_aligned, counts_of_aligned, number_of_sheet, counts_of_sheet};
+ghost use Rattle.tokenizer.specs.Refusals.{answer_number};
+ghost use Rattle.poolsheet.specs.Answers.{number_of_head, counts_of_head, number_of_row, counts_of_row, count_of, number_of_sheet, counts_of_sheet};
 
 use answers::{
-    align_counts, align_number, edit_counts, edit_number, head_counts, head_number, resolve_counts,
-    resolve_number, row_counts, row_number, sheet_counts, sheet_number,
+    count, head_counts, head_number, number, row_counts, row_number, sheet_counts, sheet_number,
 };
 use edit_map::edit_map::edit;
 use edit_map::infer::align;
@@ -59,13 +59,13 @@ pub fn poolsheet_row(
 
 // The result events of a list of raw tables. Counts: events.
 pub fn poolsheet_resolve(list: &[Event], results: &mut [Event], counts: &mut [usize; 1]) -> u8
-    ensures { (result ≡ number_of_resolved (resolve_answer list.now (length results.old)))
+    ensures { (result ≡ answer_number (resolve_answer list.now (length results.old)))
         × ((results.new ≡ resolve_slots list.now (length results.old))
-        × (counts.new ≡ counts_of_resolved (resolve_answer list.now (length results.old)))) }
+        × (counts.new ≡ count_of (resolve_answer list.now (length results.old)))) }
 {
     let a = resolve(list, results);
-    *counts = resolve_counts(a);
-    resolve_number(a)
+    *counts = count(a);
+    number(a)
 }
 
 // A list, edited, with additions from a pool. Counts: events.
@@ -76,14 +76,14 @@ pub fn poolsheet_edit(
     results: &mut [Event],
     counts: &mut [usize; 1],
 ) -> u8
-    ensures { (result ≡ number_of_edited (edit_answer list.now edits.old pool.now (length results.old)))
+    ensures { (result ≡ answer_number (edit_answer list.now edits.old pool.now (length results.old)))
         × ((edits.new ≡ edit_slots list.now edits.old pool.now (length results.old))
         × ((results.new ≡ edit_results list.now edits.old pool.now (length results.old))
-        × (counts.new ≡ counts_of_edited (edit_answer list.now edits.old pool.now (length results.old))))) }
+        × (counts.new ≡ count_of (edit_answer list.now edits.old pool.now (length results.old))))) }
 {
     let a = edit(list, edits, pool, results);
-    *counts = edit_counts(a);
-    edit_number(a)
+    *counts = count(a);
+    number(a)
 }
 
 // The alignments of the table that the event at a place enters. Counts: alignments.
@@ -93,13 +93,13 @@ pub fn poolsheet_align(
     alignments: &mut [u8],
     counts: &mut [usize; 1],
 ) -> u8
-    ensures { (result ≡ number_of_aligned (align_answer list.now index (length alignments.old)))
+    ensures { (result ≡ answer_number (align_answer list.now index (length alignments.old)))
         × ((alignments.new ≡ align_slots list.now index (length alignments.old))
-        × (counts.new ≡ counts_of_aligned (align_answer list.now index (length alignments.old)))) }
+        × (counts.new ≡ count_of (align_answer list.now index (length alignments.old)))) }
 {
     let a = align(list, index, alignments);
-    *counts = align_counts(a);
-    align_number(a)
+    *counts = count(a);
+    number(a)
 }
 
 // A whole sheet, read by a table of kinds. Counts: tables, raw events, result events, alignments.

@@ -7,7 +7,8 @@ ghost use Rattle.gfm_table.specs.Calls.{head_of, head_slots, row_of, row_slots};
 ghost use Rattle.edit_map.specs.Answers.{resolve_answer, resolve_slots, align_answer, align_slots};
 ghost use Rattle.edit_map.specs.EditAnswer.{edit_answer, edit_slots, edit_results};
 ghost use Rattle.sheet.specs.Calls.{sheet_of, sheet_raw, sheet_results, sheet_aligned};
-ghost use Rattle.poolsheet.specs.Answers.{number_of_head, counts_of_head, number_of_row, counts_of_row, number_of_resolved, counts_of_resolved, number_of_edited, counts_of_edited, number_of_aligned, counts_of_aligned, number_of_sheet, counts_of_sheet};
+ghost use Rattle.tokenizer.specs.Refusals.{answer_number};
+ghost use Rattle.poolsheet.specs.Answers.{number_of_head, counts_of_head, number_of_row, counts_of_row, count_of, number_of_sheet, counts_of_sheet};
 
 use tokenizer::event::Event;
 
@@ -52,9 +53,9 @@ pub extern "C" fn poolsheet_resolve(
     results: &mut [Event],
     counts: &mut [usize; 1],
 ) -> u8
-    ensures { (result ≡ number_of_resolved (resolve_answer list.now (length results.old)))
+    ensures { (result ≡ answer_number (resolve_answer list.now (length results.old)))
         × ((results.new ≡ resolve_slots list.now (length results.old))
-        × (counts.new ≡ counts_of_resolved (resolve_answer list.now (length results.old)))) }
+        × (counts.new ≡ count_of (resolve_answer list.now (length results.old)))) }
 {
     poolsheet::poolsheet_resolve(list, results, counts)
 }
@@ -68,10 +69,10 @@ pub extern "C" fn poolsheet_edit(
     results: &mut [Event],
     counts: &mut [usize; 1],
 ) -> u8
-    ensures { (result ≡ number_of_edited (edit_answer list.now edits.old pool.now (length results.old)))
+    ensures { (result ≡ answer_number (edit_answer list.now edits.old pool.now (length results.old)))
         × ((edits.new ≡ edit_slots list.now edits.old pool.now (length results.old))
         × ((results.new ≡ edit_results list.now edits.old pool.now (length results.old))
-        × (counts.new ≡ counts_of_edited (edit_answer list.now edits.old pool.now (length results.old))))) }
+        × (counts.new ≡ count_of (edit_answer list.now edits.old pool.now (length results.old))))) }
 {
     poolsheet::poolsheet_edit(list, edits, pool, results, counts)
 }
@@ -84,9 +85,9 @@ pub extern "C" fn poolsheet_align(
     alignments: &mut [u8],
     counts: &mut [usize; 1],
 ) -> u8
-    ensures { (result ≡ number_of_aligned (align_answer list.now index (length alignments.old)))
+    ensures { (result ≡ answer_number (align_answer list.now index (length alignments.old)))
         × ((alignments.new ≡ align_slots list.now index (length alignments.old))
-        × (counts.new ≡ counts_of_aligned (align_answer list.now index (length alignments.old)))) }
+        × (counts.new ≡ count_of (align_answer list.now index (length alignments.old)))) }
 {
     poolsheet::poolsheet_align(list, index, alignments, counts)
 }

@@ -22,7 +22,8 @@ use Rattle.edit_map.specs.Tables.{Table, raw_table, resolved_table, raw_tables, 
 use Rattle.edit_map.specs.Raw.{row_piece, delimiter_piece, IsRow, IsTable, AreRows, AreTables}
 use Rattle.edit_map.specs.Accept.{accepts}
 use Rattle.edit_map.specs.TablesOf.{resolved_list}
-use Rattle.edit_map.specs.declared.resolve.Resolved.TheVariants.{Refused, Accepted}
+use Rattle.std.specs.Prelude.{Ok, Err}
+use Rattle.tokenizer.specs.declared.refusal.Refusal.TheVariants as Refusal
 use Rattle.edit_map.specs.Answers.{resolve_answer, resolve_slots}
 use Rattle.edit_map.proofs.RawRows.{text-row, delimiter-row}
 use Rattle.edit_map.proofs.Parse.{accepts-raw}
@@ -121,7 +122,7 @@ module _ (kind : ℕ → ℕ) where
       pub raw-resolved : resolved_list (raw_of fs) ≡ resolved_of fs
       raw-resolved = ap resolved_list (raw_in fs) ∙ ap resolved_tables (tables_of_lem (heads_are _)) ∙ sym (resolved_in fs)
 
-      pub answer-is : (m : ℕ) → resolve_answer (raw_of fs) m ≡ cond (leb (length (resolved_of fs)) m) (Accepted (length (resolved_of fs))) (Refused 12)
+      pub answer-is : (m : ℕ) → resolve_answer (raw_of fs) m ≡ cond (leb (length (resolved_of fs)) m) (Ok (length (resolved_of fs))) (Err Refusal.TooFewResultSlots)
       unfolding resolve_answer
       answer-is m = rw (raw-accepted, raw-resolved)
 

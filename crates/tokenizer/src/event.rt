@@ -1,7 +1,7 @@
 // Points and events, and the names of events.
 ghost use Rattle.std.specs.Prelude.{◌≡◌, [], ◌∷◌, ◌<◌, ◌≤◌};
 ghost use Rattle.tokenizer.specs.Points.{start, column_after, past, next_line, start_of};
-ghost use Rattle.tokenizer.specs.Events.{blank_event, number, enter, leave};
+ghost use Rattle.tokenizer.specs.Events.{blank_event, number, enter, leave, point_of};
 
 // A place in the sheet. Lines and columns count from 1; `vs` counts the units passed inside a tab.
 #[repr(C)]
@@ -171,6 +171,20 @@ impl Event {
             index: p.index,
             vs: p.vs,
             link: 0,
+        }
+    }
+}
+
+impl From<Event> for Point {
+    ghost from_gives = { λ e p. p ≡ point_of e };
+
+    // Where an event stands.
+    fn from(e: Event) -> Point {
+        Point {
+            line: e.line,
+            column: e.column,
+            index: e.index,
+            vs: e.vs,
         }
     }
 }

@@ -6,5 +6,5 @@ use Rattle.edit_map.proofs.cell_steps.mark_step.Goals as goal
 
 pub returns : goal.returns
 returns c =
-    rw (c.either-2.ensures, c.unless-2.ensures, c.either.ensures, c.unless.ensures, c.both.ensures, c.text_follows-m.ensures, c.is_text_name-t.ensures, c.opens-o.ensures, c.marks_at-x.ensures)
+    rw (c.unless-2.ensures, c.unless.ensures, c.text_follows-m.ensures, c.is_text_name-t.ensures, c.opens-o.ensures, c.marks_at-x.ensures)
     (sym (mark-step c.requires.3.reads c.args.s.now c.args.w))

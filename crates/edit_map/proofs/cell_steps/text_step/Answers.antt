@@ -14,5 +14,5 @@ reach_from-y-requires c =
 
 pub returns : goal.returns
 returns c =
-    rw (c.either-2.ensures, c.unless.ensures, c.either.ensures, c.link_if.ensures, c.reach_from-y.ensures, c.opens-o.ensures, c.text_at-x.ensures)
+    rw (c.unless.ensures, c.link_if.ensures, c.reach_from-y.ensures, c.opens-o.ensures, c.text_at-x.ensures)
     (sym (text-step c.requires.3.reads c.args.s.now c.args.w))

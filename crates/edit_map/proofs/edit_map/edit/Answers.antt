@@ -1,20 +1,32 @@
--- `edit_map::edit` meets its contract.
+-- `edit_map::edit` meets its contract: the records begin where the answer says.
 -- Assumes nothing.
-use mathlib.Core.Path.{ap, ◌∙◌}
-use Rattle.edit_map.specs.declared.edit_map.Settled.{Settled}
+use mathlib.Core.Path.{◌≡◌, sym, ap, ◌∙◌}
+use Rattle.edit_map.specs.EditSettles.{start_of}
 use Rattle.edit_map.proofs.EditResult.{settled-answer, settled_slots, settled_results, settled_ready}
+use Rattle.edit_map.proofs.edit_map.edit.Goals.{in-Ok, in-Err}
 use Rattle.edit_map.proofs.edit_map.edit.Goals as goal
 
-pub edit_into-requires : goal.edit_into-requires
-edit_into-requires c = let a = c.args in let e = c.settle-s.ensures in rw (e.1, e.0) (settled_ready a.list.now a.pool.now a.edits.now _)
+pub fill-requires : goal.fill-requires
+fill-requires c =
+    let a = c.args in
+    let e = c.settle-answer.ensures in
+    let b : c.match-answer.cursor ≡ start_of c.settle-answer.result = elim c.match-answer.branch [
+      | in-Ok w ↦ w.cursor-is ∙ ap start_of (sym w.in-Ok.is)
+      | in-Err w ↦ w.cursor-is ∙ ap start_of (sym w.in-Err.is)
+    ] in
+    rw (e.1, b ∙ ap start_of e.0) (settled_ready a.list.now a.pool.now a.edits.now _)
 
 pub returns : goal.returns
 returns c =
     let a = c.args in
-    let e = c.settle-s.ensures in (
-      ap (λ (s : Settled). s.answer) e.0 ∙ settled-answer a.list.now a.pool.now a.edits.now _,
+    let e = c.settle-answer.ensures in
+    let b : c.match-answer.cursor ≡ start_of c.settle-answer.result = elim c.match-answer.branch [
+      | in-Ok w ↦ w.cursor-is ∙ ap start_of (sym w.in-Ok.is)
+      | in-Err w ↦ w.cursor-is ∙ ap start_of (sym w.in-Err.is)
+    ] in (
+      e.0 ∙ settled-answer a.list.now a.pool.now a.edits.now _,
       (
         e.1 ∙ settled_slots a.list.now a.pool.now a.edits.now _,
-        rw (e.1, e.0) at c.edit_into.ensures ∙ settled_results a.list.now a.pool.now a.edits.now _,
+        rw (e.1, b ∙ ap start_of e.0) at c.fill.ensures ∙ settled_results a.list.now a.pool.now a.edits.now _,
       ),
     )

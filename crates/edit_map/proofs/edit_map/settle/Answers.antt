@@ -14,21 +14,21 @@ pub returns-then-not-fits : goal.returns-then-not-fits
 returns-then-not-fits c =
     let a = c.args in
     let e = settle_misfit a.len a.pool a.slots (edits_of a.edits.now) (sym c.fits.ensures.0 ∙ c.if-not-fits.true) in
-    (c.refused.ensures ∙ e, rw (← e) c.fits.ensures.1)
+    (e, rw (← e) c.fits.ensures.1)
 
-pub count-t-requires : goal.count-t-requires
-count-t-requires c = rw c.fits.ensures.1 (removed-fits _ _ _ (sym c.fits.ensures.0 ∙ c.if-not-fits.false))
+pub count-requires : goal.count-requires
+count-requires c = rw c.fits.ensures.1 (removed-fits _ _ _ (sym c.fits.ensures.0 ∙ c.if-not-fits.false))
 
-pub returns-in-None : goal.returns-in-None
-returns-in-None c =
+pub returns-in_default : goal.returns-in_default
+returns-in_default c =
     let a = c.args in
-    let n = c.count-t.ensures ∙ ap (λ (l : List ℕ). capped a.slots (result_count a.len (edits_of l))) c.fits.ensures.1 in
-    let e = settle_short a.len a.pool a.slots (edits_of a.edits.now) (sym c.fits.ensures.0 ∙ c.if-not-fits.false) _ n c.in-None.is in
-    (c.refused-in-None.ensures ∙ e, rw (← e) c.fits.ensures.1)
+    let n = c.count.ensures ∙ ap (λ (l : List ℕ). capped a.slots (result_count a.len (edits_of l))) c.fits.ensures.1 in
+    let e = settle_short a.len a.pool a.slots (edits_of a.edits.now) (sym c.fits.ensures.0 ∙ c.if-not-fits.false) _ n c.in_default.is in
+    (e, rw (← e) c.fits.ensures.1)
 
-pub returns-in-Some : goal.returns-in-Some
-returns-in-Some c =
+pub returns : goal.returns
+returns c =
     let a = c.args in
-    let n = c.count-t.ensures ∙ ap (λ (l : List ℕ). capped a.slots (result_count a.len (edits_of l))) c.fits.ensures.1 in
+    let n = c.count.ensures ∙ ap (λ (l : List ℕ). capped a.slots (result_count a.len (edits_of l))) c.fits.ensures.1 in
     let e = settle_records a.len a.pool a.slots (edits_of a.edits.now) (sym c.fits.ensures.0 ∙ c.if-not-fits.false) _ n _ c.in-Some.is in
     (e, rw (← e) (c.sort.ensures ∙ ap (λ (l : List ℕ). holding (sorted (edits_of l)) l) c.fits.ensures.1))

@@ -1,10 +1,12 @@
--- The slots up to a place are written, and what the scans give to the rest is what they give to all.
+-- The slots up to a place are written, and the rest take what all take from a state on.
 use Rattle.std.proofs.Common.{◌≡◌, ◌-◌, ◌++◌, length, take}
-use Rattle.edit_map.specs.AlignSteps.{aligns_from}
+use Rattle.edit_map.specs.AlignSteps.{pauses, aligns_from}
 use Rattle.edit_map.proofs.infer.fill_alignments.Given as goal
 
-abbrev pub invariant-loop-i : goal.invariant-loop-i
-invariant-loop-i l = take l.i l.alignments ++ aligns_from l.list (length l.initial.alignments - l.i) l.cur ≡ aligns_from l.list (length l.initial.alignments) l.fn.s
+abbrev pub invariant-loop-slot : goal.invariant-loop-slot
+invariant-loop-slot l =
+    take l.slot-index l.alignments ++ aligns_from l.list (length l.initial.alignments - l.slot-index) l.cur
+    ≡ aligns_from l.list (length l.initial.alignments) l.fn.s
 
-abbrev pub decreases-loop-i : goal.decreases-loop-i
-decreases-loop-i l = length l.initial.alignments - l.i
+abbrev pub ghost-scan : goal.ghost-scan
+ghost-scan a = pauses

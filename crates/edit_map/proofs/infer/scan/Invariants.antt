@@ -1,10 +1,7 @@
--- What is left to scan comes to what the whole scan comes to, and where a record is to be read the state is on.
-use Rattle.std.proofs.Common.{◌≡◌, ◌-◌, ◌<◌, length, drop, false}
-use Rattle.edit_map.specs.AlignSteps.{scan_of, scan_all, stops}
+-- What is left to read comes to what the whole scan comes to.
+use Rattle.std.proofs.Common.{◌≡◌, drop}
+use Rattle.edit_map.specs.AlignSteps.{scan_all, scan_of}
 use Rattle.edit_map.proofs.infer.scan.Given as goal
 
-abbrev pub invariant-loop-i : goal.invariant-loop-i
-invariant-loop-i l = (l.i < length l.list → stops l.each l.cur ≡ false) × (scan_all l.each l.cur (drop l.i l.list) ≡ scan_of l.list l.each l.fn.s)
-
-abbrev pub decreases-loop-i : goal.decreases-loop-i
-decreases-loop-i l = length l.list - l.i
+abbrev pub invariant-loop-e : goal.invariant-loop-e
+invariant-loop-e g l = scan_all g.off l.cur (drop l.e-index l.e-items) ≡ scan_of l.list g.off l.fn.s

@@ -9,17 +9,13 @@ use Rattle.edit_map.specs.Accept.{read_all}
 use Rattle.edit_map.proofs.Passes.{read_more, read_none}
 use Rattle.edit_map.proofs.resolve.accept.Goals as goal
 
-pub loop-i-init : goal.loop-i-init
-loop-i-init c = rw c.accept_start-cur.ensures
-
-pub loop-i-preserved : goal.loop-i-preserved
-loop-i-preserved c =
-    let l = c.loop-i in
+pub loop-e-preserved : goal.loop-e-preserved
+loop-e-preserved c =
+    let l = c.loop-e in
     let es = c.args.list.now in
-    rw c.accept_step-cur.ensures
-    (sym (read_more l.cur _ (drop (l.i + 1) es)) ∙ ap (read_all l.cur) (sym (left-from es l.i blank_event c.loop-i-test.true)) ∙ l.invariant)
+    rw c.step-r.ensures (sym (read_more l.r _ (drop (l.e-index + 1) es)) ∙ ap (read_all l.r) (sym (left-from es l.e-index blank_event c.loop-e-test.true)) ∙ l.invariant)
 
 pub returns : goal.returns
 returns c =
-    let l = c.loop-i in
-    sym (read_none l.cur) ∙ ap (read_all l.cur) (sym (drop_of_length-le c.args.list.now c.loop-i-test.false)) ∙ l.invariant
+    let l = c.loop-e in
+    sym (read_none l.r) ∙ ap (read_all l.r) (sym (drop_of_length-le c.args.list.now c.loop-e-test.false)) ∙ l.invariant

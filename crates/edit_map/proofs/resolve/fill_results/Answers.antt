@@ -1,53 +1,33 @@
 -- `resolve::fill_results` meets its contract.
 -- Assumes nothing.
-use mathlib.Core.Path.{◌≡◌, refl, sym, ap}
-use mathlib.Core.List.{List}
-use Prim.Native.Nat.{ℕ, ◌<◌, ◌-◌, ◌^◌}
-use mathlib.Core.List.{◌++◌}
+use mathlib.Core.Path.{ap, sym, ◌∙◌}
+use Prim.Native.Nat.{ℕ, ◌-◌, ◌+◌}
 use native.Mathlib.Omega.{arith}
-use lib.Dec.{eqb}
-use lib.ListN.{length, take, drop}
-use Rattle.tokenizer.specs.declared.event.Event.{Event}
-use Rattle.tokenizer.specs.Events.{blank_event}
-use Rattle.tokenizer.specs.Slots.{event_at}
-use Rattle.edit_map.specs.declared.resolve_step.Cursor.{Cursor}
-use Rattle.edit_map.specs.Base.{placed_at}
-use Rattle.edit_map.specs.Cursors.{step_at, stepped, cursor_after}
-use Rattle.edit_map.proofs.Passes.{in_most, step_halts}
-use Rattle.edit_map.proofs.Halting as HA
+use lib.ListN.{length}
+use Rattle.std.proofs.lemmas.List.{set-get_or}
+use Rattle.edit_map.specs.Cursors.{is_over, cursor_after}
+use Rattle.edit_map.proofs.Passes.{filled_over, filled_more, filled_none, after_over, after_more, after_none}
 use Rattle.edit_map.proofs.resolve.fill_results.Goals as goal
 
-module _ (cu : Cursor) (xs ys : List Event) (fits : length ys < 2 ^ 64) (i : ℕ) (cur : Cursor) (zs : List Event) (small : i < 2 ^ 64) (len : length zs ≡ length ys)
-    (e : take i zs ++ stepped xs cur (drop i zs) ≡ stepped xs cu ys) (f : cursor_after xs (length ys - i) cur ≡ cursor_after xs (length ys) cu) where
-  abbrev turn : HA.Turn (λ (s : Cursor). Unit {0}) (λ s. placed_at (event_at xs s.at) (step_at xs s).event) (λ s. (step_at xs s).next) (λ s. eqb (step_at xs s).gave 0) (stepped xs) (cursor_after xs) (step_halts xs) ys (in_most fits) (stepped xs cu ys) (cursor_after xs (length ys) cu)
-  turn = record { i = i; s = cur; zs = zs; fits = tt; small = small; len = len; inv = sym e; last = sym f }
+pub returns-then-is_over : goal.returns-then-is_over
+returns-then-is_over c =
+    let l = c.loop-slot in
+    let es = c.args.list.now in
+    let o = sym (c.is_over.ensures ∙ ap (is_over l.cur) c.at_or_blank-this.ensures) ∙ c.if-is_over.true in
+    (sym (after_over es (length c.args.results.now - l.slot-index) l.cur o) ∙ l.invariant.1, set-get_or l.results l.slot-index _ ∙ filled_over es l.cur l.slot-index l.results o ∙ l.invariant.0)
 
-pub loop-i-init : goal.loop-i-init
-loop-i-init c = (refl, ap (λ (k : ℕ). cursor_after c.args.list.now k c.args.c) (omega arith))
-
-pub loop-i-smaller : goal.loop-i-smaller
-loop-i-smaller c =
-    let l = c.loop-i in
-    let ys = c.args.results.now in
-    let f : length ys < 2 ^ 64 = omega arith in
-    let t = turn c.args.c c.args.list.now ys f l.i l.cur l.results (omega arith) l.auto.results l.invariant.0 l.invariant.1 in
-    rw (c.next_slot-k.ensures, c.step_at-s.ensures) (HA.goes_on_less _ _ _ _ _ _ _ _ _ _ _ t c.loop-i-test.true)
-
-pub loop-i-preserved : goal.loop-i-preserved
-loop-i-preserved c =
-    let l = c.loop-i in
-    let xs = c.args.list.now in
-    let ys = c.args.results.now in
-    let f : length ys < 2 ^ 64 = omega arith in
-    let t = turn c.args.c xs ys f l.i l.cur l.results (omega arith) l.auto.results l.invariant.0 l.invariant.1 in
-    let k = rw (c.next_slot-k.ensures, c.step_at-s.ensures) at c.next_slot-k.type_inv in
-    let u = HA.goes_on_lem _ _ _ _ _ _ _ _ _ _ _ t c.loop-i-test.true blank_event tt k in
-    rw (c.next_slot-k.ensures, c.placed_at-e.ensures, c.at_or_blank-o.ensures, c.step_at-s.ensures) (sym u.inv, sym u.last)
+pub loop-slot-preserved : goal.loop-slot-preserved
+loop-slot-preserved c =
+    let l = c.loop-slot in
+    let es = c.args.list.now in
+    let on = sym (c.is_over.ensures ∙ ap (is_over l.cur) c.at_or_blank-this.ensures) ∙ c.if-is_over.false in
+    rw (c.step-s.ensures, c.next_at.ensures, c.look_ahead.ensures, c.at_or_blank-this.ensures) (
+      filled_more es l.cur l.slot-index l.results on (omega arith) ∙ l.invariant.0,
+      sym (after_more es (length c.args.results.now - (l.slot-index + 1)) l.cur on) ∙ ap (λ (k : ℕ). cursor_after es k l.cur) (omega arith) ∙ l.invariant.1,
+    )
 
 pub returns : goal.returns
 returns c =
-    let l = c.loop-i in
-    let ys = c.args.results.now in
-    let f : length ys < 2 ^ 64 = omega arith in
-    let t = turn c.args.c c.args.list.now ys f l.i l.cur l.results (omega arith) l.auto.results l.invariant.0 l.invariant.1 in
-    (HA.is_last _ _ _ _ _ _ _ _ _ _ _ t c.loop-i-test.false, HA.is_done _ _ _ _ _ _ _ _ _ _ _ t c.loop-i-test.false)
+    let l = c.loop-slot in
+    let es = c.args.list.now in
+    (sym (after_none es l.cur) ∙ ap (λ (k : ℕ). cursor_after es k l.cur) (omega arith) ∙ l.invariant.1, filled_none es l.cur l.slot-index l.results (omega arith) ∙ l.invariant.0)
