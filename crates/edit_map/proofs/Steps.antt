@@ -10,7 +10,7 @@ use lib.Seq.{drop-drop}
 use native.Mathlib.Omega.{arith}
 use borrow.Author.Tests.{eqb-true, leb-true, leb-false}
 use Rattle.tokenizer.specs.declared.event.Event.{Event}
-use Rattle.tokenizer.specs.Slots.{event_at, slots_of, cleared_from}
+use Rattle.tokenizer.specs.Slots.{event_at, slots_of, cleared, cleared_from}
 use Rattle.tokenizer.proofs.Blanks.{slots_none, cleared_all}
 use Rattle.tokenizer.specs.Events.{GfmTableCellDivider, SpaceOrTab, blank_event}
 use Rattle.edit_map.specs.declared.resolve_turn.Phase.{Phase}
@@ -364,7 +364,7 @@ module _ (es : List Event) (fits : length es ≤ most) where
 
   -- where there are slots for all records that are to be given, these stand in them, once the slots behind are cleared
   pub fills : {m : Mode} {l out : List Event} → Gives m l out (plain Out Part.Head) [] → {c : Cursor} → Stands c m l → (ys : List Event) → length out ≤ length ys → cleared_from (length out) (stepped es c ys) ≡ slots_of (length ys) out
-  unfolding cleared_from slots_of
+  unfolding cleared slots_of
   fills none {c} s ys h = cleared_all (stepped es c ys) ∙ ap (λ (k : ℕ). replicate k blank_event) (as_many es c ys) ∙ sym (slots_none (length ys))
   fills (more e g) s [] h = absurd (omega arith)
   fills (more {m = m} {es = l} {out = out} e g) {c} s (y ∷ ys) h =

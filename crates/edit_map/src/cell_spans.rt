@@ -16,9 +16,7 @@ use tokenizer::text::Text;
 pub fn opens(text: &Text, seen: bool, name: Name, end: usize) -> bool
     ensures { result ≡ opens_at (kind_in text.now.kinds.now) text.now.bytes.now seen (number name) end }
 {
-    seen
-        && name == Name::GfmTableCellDivider
-        && text.kind_at(text.space_stop(end)) != Kind::End
+    seen && name == Name::GfmTableCellDivider && text.kind_at(text.space_stop(end)) != Kind::End
 }
 
 // Whether a text comes next, behind whitespace or without it.

@@ -82,7 +82,7 @@ impl Aligning {
         Aligning {
             stage,
             front,
-            last: e.name == Name::GfmTableDelimiterMarker,
+            last: e.name == Name::GfmTableDelimiterMarker as u8,
             given: None,
             at: self.at.saturating_add(1),
             ..self
@@ -96,7 +96,7 @@ impl Aligning {
         Aligning {
             stage: Stage::Outside,
             front: false,
-            last: e.name == Name::GfmTableDelimiterMarker,
+            last: e.name == Name::GfmTableDelimiterMarker as u8,
             given: Some(Alignment::of(front, self.last)),
             count: self.count.saturating_add(1),
             at: self.at.saturating_add(1),
@@ -107,10 +107,12 @@ impl Aligning {
     fn value_step(self, front: bool, e: Event) -> Self
         ensures { result ≡ value_step front self e }
     {
-        if is_exit(Name::GfmTableDelimiterRow, e) || is_entry(Name::GfmTableDelimiterCellValue, e) {
+        if is_exit(Name::GfmTableDelimiterRow as u8, e)
+            || is_entry(Name::GfmTableDelimiterCellValue as u8, e)
+        {
             return self.still(Stage::Failed, false, e);
         }
-        if is_exit(Name::GfmTableDelimiterCellValue, e) {
+        if is_exit(Name::GfmTableDelimiterCellValue as u8, e) {
             return self.gives(front, e);
         }
         self.still(Stage::Inside, front, e)
@@ -120,13 +122,13 @@ impl Aligning {
     fn outside_step(self, e: Event) -> Self
         ensures { result ≡ outside_step self e }
     {
-        if is_exit(Name::GfmTableDelimiterRow, e) {
+        if is_exit(Name::GfmTableDelimiterRow as u8, e) {
             return self.still(Stage::Found, false, e);
         }
-        if is_entry(Name::GfmTableDelimiterCellValue, e) {
+        if is_entry(Name::GfmTableDelimiterCellValue as u8, e) {
             return self.still(Stage::Entered, false, e);
         }
-        if is_exit(Name::GfmTableDelimiterCellValue, e) {
+        if is_exit(Name::GfmTableDelimiterCellValue as u8, e) {
             return self.still(Stage::Failed, false, e);
         }
         self.still(Stage::Outside, false, e)
@@ -144,17 +146,17 @@ impl Aligning {
         ensures { result ≡ align_step self e }
     {
         match self.stage {
-            Stage::Opening => self.sought(Name::GfmTable, Stage::Seeking, Stage::Failed, e),
+            Stage::Opening => self.sought(Name::GfmTable as u8, Stage::Seeking, Stage::Failed, e),
             Stage::Seeking => {
                 self.sought(
-                    Name::GfmTableDelimiterRow,
+                    Name::GfmTableDelimiterRow as u8,
                     Stage::Outside,
                     Stage::Seeking,
                     e,
                 )
             }
             Stage::Outside => self.outside_step(e),
-            Stage::Entered => self.value_step(e.name == Name::GfmTableDelimiterMarker, e),
+            Stage::Entered => self.value_step(e.name == Name::GfmTableDelimiterMarker as u8, e),
             Stage::Inside => self.value_step(self.front, e),
             Stage::Found => self.still(Stage::Found, false, e),
             Stage::Failed => self.still(Stage::Failed, false, e),

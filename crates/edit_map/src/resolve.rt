@@ -100,6 +100,6 @@ pub fn resolve(list: &[Event], results: &mut [Event]) -> Result<usize, Refusal>
 {
     let answer = resolve_into(list, results);
     let keep = answer.unwrap_or(0);
-    clear_from(results, keep);
+    clear_from(results, keep, Event::BLANK);
     answer
 }

@@ -7,7 +7,7 @@ ghost use Rattle.edit_map.specs.Raw.{enters, leaves, row_piece, delimiter_piece}
 ghost use Rattle.edit_map.specs.Accept.{piece_of, at, refused, ending, entry_of, after_row, read_in, read_step, whole, accepted};
 
 use crate::resolve_base::{is_entry, is_exit};
-use gfm_table::stream::{Part, row_name};
+use gfm_table::stream::Part;
 use tokenizer::event::{Event, Name};
 
 // How far a list of raw tables is read.
@@ -49,17 +49,17 @@ fn leaves(n: u8, e: Event) -> bool
 fn row_piece(n: u8) -> bool
     ensures { result ≡ row_piece n }
 {
-    n == Name::SpaceOrTab || n == Name::GfmTableCellDivider || n == Name::Data
+    n == Name::SpaceOrTab as u8 || n == Name::GfmTableCellDivider as u8 || n == Name::Data as u8
 }
 
 // Whether a delimiter row may hold pieces of the name n.
 fn delimiter_piece(n: u8) -> bool
     ensures { result ≡ delimiter_piece n }
 {
-    n == Name::SpaceOrTab
-        || n == Name::GfmTableCellDivider
-        || n == Name::GfmTableDelimiterMarker
-        || n == Name::GfmTableDelimiterFiller
+    n == Name::SpaceOrTab as u8
+        || n == Name::GfmTableCellDivider as u8
+        || n == Name::GfmTableDelimiterMarker as u8
+        || n == Name::GfmTableDelimiterFiller as u8
 }
 
 // Whether a row of this kind may hold pieces of the name n.
@@ -90,7 +90,7 @@ fn ending(part: Part) -> Reading
     Reading {
         place: Place::Entry,
         part,
-        due: Some(Name::LineEnding),
+        due: Some(Name::LineEnding as u8),
     }
 }
 
@@ -131,7 +131,7 @@ fn after_row(p: Part) -> Reading
 fn within(p: Part, e: Event) -> Reading
     ensures { result ≡ cond (leaves (name_of p) e) (after_row p) (entry_of p e) }
 {
-    if leaves(row_name(p), e) {
+    if leaves(p.row_name() as u8, e) {
         after_row(p)
     } else {
         entry_of(p, e)
@@ -142,14 +142,17 @@ fn within(p: Part, e: Event) -> Reading
 fn head_entry(e: Event) -> Reading
     ensures { result ≡ cond (enters Events.GfmTableHead e) (at Place.Entry Part.Head) refused }
 {
-    passing(enters(Name::GfmTableHead, e), at(Place::Entry, Part::Head))
+    passing(
+        enters(Name::GfmTableHead as u8, e),
+        at(Place::Entry, Part::Head),
+    )
 }
 
 // A body row follows, or another table.
 fn closed(e: Event) -> Reading
     ensures { result ≡ cond (enters Events.LineEnding e) (ending Part.Body) (cond (enters Events.GfmTableHead e) (at Place.Entry Part.Head) refused) }
 {
-    if enters(Name::LineEnding, e) {
+    if enters(Name::LineEnding as u8, e) {
         ending(Part::Body)
     } else {
         head_entry(e)
@@ -162,11 +165,14 @@ fn read_in(l: Place, p: Part, e: Event) -> Reading
 {
     match l {
         Place::Start => head_entry(e),
-        Place::Entry => passing(enters(row_name(p), e), at(Place::Fresh, p)),
+        Place::Entry => passing(enters(p.row_name() as u8, e), at(Place::Fresh, p)),
         Place::Fresh => entry_of(p, e),
         Place::Within => within(p, e),
-        Place::Between => passing(enters(Name::LineEnding, e), ending(Part::Delimiter)),
-        Place::HeadLeave => passing(leaves(Name::GfmTableHead, e), at(Place::Closed, Part::Head)),
+        Place::Between => passing(enters(Name::LineEnding as u8, e), ending(Part::Delimiter)),
+        Place::HeadLeave => passing(
+            leaves(Name::GfmTableHead as u8, e),
+            at(Place::Closed, Part::Head),
+        ),
         Place::Closed => closed(e),
         Place::Refused => Reading::REFUSED,
     }

@@ -23,14 +23,16 @@ pub fn is_exit(n: u8, e: Event) -> bool
 pub fn is_row_name(n: u8) -> bool
     ensures { result ≡ is_row_name n }
 {
-    n == Name::GfmTableRow || n == Name::GfmTableDelimiterRow
+    n == Name::GfmTableRow as u8 || n == Name::GfmTableDelimiterRow as u8
 }
 
 // Whether a name is that of a cell's text, or of a part of a delimiter value.
 pub fn is_text_name(n: u8) -> bool
     ensures { result ≡ is_text_name n }
 {
-    n == Name::Data || n == Name::GfmTableDelimiterMarker || n == Name::GfmTableDelimiterFiller
+    n == Name::Data as u8
+        || n == Name::GfmTableDelimiterMarker as u8
+        || n == Name::GfmTableDelimiterFiller as u8
 }
 
 // The records from a place on, none past the end.

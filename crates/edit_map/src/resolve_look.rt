@@ -27,7 +27,7 @@ impl Look {
             count: 1,
             ahead: 1,
             solid: false,
-            brief: this.name == Name::GfmTableCellDivider,
+            brief: this.name == Name::GfmTableCellDivider as u8,
         }
     }
 
@@ -35,7 +35,7 @@ impl Look {
     fn on(self, n: usize, e: Event) -> Self
         ensures { result ≡ look_on n self e }
     {
-        if e.name == Name::SpaceOrTab {
+        if e.name == Name::SpaceOrTab as u8 {
             return Look {
                 count: n,
                 on: true,
@@ -53,7 +53,7 @@ impl Look {
         }
         Look {
             on: false,
-            solid: self.solid || e.name == Name::GfmTableCellDivider,
+            solid: self.solid || e.name == Name::GfmTableCellDivider as u8,
             ..self
         }
     }
@@ -77,8 +77,8 @@ impl Mode {
         ensures { result ≡ asks self this }
     {
         self.phase == Phase::Piece
-            && this.name != Name::SpaceOrTab
-            && (self.seen || this.name != Name::GfmTableCellDivider)
+            && this.name != Name::SpaceOrTab as u8
+            && (self.seen || this.name != Name::GfmTableCellDivider as u8)
     }
 
     // Whether the next turn reads the next record.

@@ -87,7 +87,7 @@ fn row_exit_turn(p: Part, this: Event, next: Event) -> Turn
         Part::Head => given(this, Mode::plain(Phase::End, Part::Head), 1),
         Part::Delimiter => given(this, Mode::plain(Phase::HeadExit, Part::Delimiter), 1),
         Part::Body => {
-            if next.name == Name::LineEnding {
+            if next.name == Name::LineEnding as u8 {
                 given(this, Mode::plain(Phase::End, Part::Body), 1)
             } else {
                 given(this, Mode::plain(Phase::BodyLeave, Part::Body), 0)
@@ -111,7 +111,7 @@ fn end_exit_turn(p: Part, this: Event) -> Turn
 fn head_exit_turn(this: Event, next: Event) -> Turn
     ensures { result ≡ head_exit_turn this next }
 {
-    if next.name == Name::LineEnding {
+    if next.name == Name::LineEnding as u8 {
         given(this, Mode::plain(Phase::End, Part::Delimiter), 1)
     } else {
         given(this, Mode::plain(Phase::TableLeave, Part::Delimiter), 0)
@@ -158,7 +158,7 @@ fn copy_piece(m: Mode, this: Event) -> Turn
 {
     let then = Mode {
         phase: Phase::Exit,
-        seen: m.seen || this.name != Name::SpaceOrTab,
+        seen: m.seen || this.name != Name::SpaceOrTab as u8,
         left: 0,
         ..m
     };
@@ -173,7 +173,7 @@ fn piece_turn(m: Mode, this: Event, look: Look) -> Turn
     if is_row_name(this.name) {
         return leave_cell(m.part, this, Phase::RowExit);
     }
-    if m.seen && this.name == Name::GfmTableCellDivider && look.solid {
+    if m.seen && this.name == Name::GfmTableCellDivider as u8 && look.solid {
         return leave_cell(m.part, this, Phase::Cell);
     }
     if m.waits && is_text_name(this.name) {
