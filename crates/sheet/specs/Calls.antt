@@ -1,16 +1,15 @@
 -- What `sheet` answers, and what it leaves in the slots.
-use Rattle.std.specs.Prelude.{ℕ, List, [], Bool, cond, eqb, ltb, length}
+use Rattle.std.specs.Prelude.{ℕ, List, [], Bool, cond, eqb, ltb, length, Result}
 use Rattle.tokenizer.specs.declared.event.Event.{Event}
 use Rattle.tokenizer.specs.Bytes.{kind_in, kinds_refusal}
+use Rattle.tokenizer.specs.declared.refusal.Refusal.{Refusal}
+use Rattle.tokenizer.specs.Refusals.{answered}
 use Rattle.tokenizer.specs.Slots.{slots_of}
 use Rattle.gfm_table.specs.Calls.{or_else, slot_refusal}
-use Rattle.sheet.specs.declared.calls.Sheet.{Sheet}
-use Rattle.sheet.specs.declared.calls.Sheet.TheVariants.{Refused, Accepted}
-use Rattle.sheet.specs.declared.calls.Lent.{Lent}
-use Rattle.sheet.specs.declared.calls.Verdict.{Verdict}
-use Rattle.sheet.specs.declared.write.Counts.{Counts}
+use Rattle.sheet.specs.declared.calls.SheetCounts.{SheetCounts}
 use Rattle.sheet.specs.Walk.{Found, tables, raw_of, resolved_of, aligned_of}
 use Rattle.sheet.specs.Aligning.{aligned_into}
+use Rattle.sheet.specs.Writing.{counts_of}
 
 -- ## Questions
 
@@ -41,12 +40,9 @@ module _ (s t : List ℕ) (on : Bool) (n m k : ℕ) where
       (or_else (slot_refusal n (raw_of sheet_tables))
       (or_else (result_refusal m (resolved_of sheet_tables)) (align_refusal k (aligned_of sheet_tables)))))
 
-  -- accepted: the numbers of tables, raw events, result events and alignments
-  abbrev pub sheet_of : Sheet
-  sheet_of =
-      cond (eqb sheet_number 0)
-      (Accepted (length sheet_tables) (length (raw_of sheet_tables)) (length (resolved_of sheet_tables)) (length (aligned_of sheet_tables)))
-      (Refused sheet_number)
+  -- the answer: accepted, the numbers of tables, raw events, result events and alignments
+  abbrev pub sheet_of : Result SheetCounts Refusal
+  sheet_of = answered sheet_number (counts_of sheet_tables)
 
   -- the raw slots: the events of all tables and then blanks, or blanks
   abbrev pub sheet_raw : List Event
@@ -59,29 +55,3 @@ module _ (s t : List ℕ) (on : Bool) (n m k : ℕ) where
   -- the alignment slots: the alignments and then zeros, or zeros
   abbrev pub sheet_aligned : List ℕ
   sheet_aligned = aligned_into (eqb sheet_number 0) (aligned_of sheet_tables) k
-
--- ## The way there
-
--- questions 1, 9, 12 and 14 of a sheet of n bytes, by what it has and what is lent, behind those of the table of kinds, which gave q: the number of the first answered no, or 0
-abbrev pub refusal_of : ℕ → ℕ → Counts → Lent → ℕ
-refusal_of q n c l =
-    or_else q
-    (cond (ltb 65536 n) 1
-    (cond (ltb l.raw c.raw) 9
-    (cond (ltb l.results c.results) 12
-    (cond (ltb l.aligned c.aligned) 14 0))))
-
--- refused: no slot stays as it is
-abbrev pub no_verdict : ℕ → Verdict
-no_verdict q = record { answer = Refused q; kept = record { raw = 0; results = 0; aligned = 0 } }
-
--- the answer, and how many slots stay as they are
-unfoldable pub judge_of : ℕ → ℕ → Counts → Lent → Verdict
-judge_of q n c l =
-    cond (eqb (refusal_of q n c l) 0)
-    (record { answer = Accepted c.tables c.raw c.results c.aligned; kept = record { raw = c.raw; results = c.results; aligned = c.aligned } })
-    (no_verdict (refusal_of q n c l))
-
--- the lesser of two numbers
-abbrev pub least_of : ℕ → ℕ → ℕ
-least_of a b = cond (ltb a b) a b

@@ -1,12 +1,12 @@
 -- The next head from a line on.
-use Rattle.std.specs.Prelude.{ℕ, ◌≡◌, List, [], ◌∷◌, Bool, true, false, cond, ◌&&◌, not, eqb, length, drop}
+use Rattle.std.specs.Prelude.{ℕ, ◌≡◌, List, [], ◌∷◌, Bool, false, cond, ◌&&◌, not, eqb, length, drop, Option, Some, None}
 use Rattle.tokenizer.specs.declared.event.Point.{Point}
 use Rattle.tokenizer.specs.Lines.{line_body}
 use Rattle.tokenizer.specs.Places.{Placed, lines_from, lines_past}
 use Rattle.tokenizer.specs.Moves.{line_at, after, Inside}
 use Rattle.gfm_table.specs.Rows.{row_pieces}
 use Rattle.gfm_table.specs.Heads.{solid, lone_divider, head_cells, permitted, is_delimiter_row, values}
-use Rattle.gfm_table.specs.Places.{point_in}
+use Rattle.tokenizer.specs.Points.{start_of}
 use Rattle.sheet.specs.declared.seek.Opening.{Opening}
 use Rattle.sheet.specs.Walk.{closes, found, heads, rows}
 
@@ -35,7 +35,7 @@ module _ (kind : ℕ → ℕ) where
 
 -- where a head's line starts
 abbrev pub opening_point : Opening → Point
-opening_point o = point_in o.line o.at 1
+opening_point o = start_of o.head
 
 module _ (kind : ℕ → ℕ) where
   -- the tables from the line p on begin with the one that o opens
@@ -48,11 +48,7 @@ module _ (kind : ℕ → ℕ) where
         heads kind on (lines_from s p)
         ≡ found kind on (here s (opening_point o)) (here s (after s (opening_point o))) (lines_past s (after s (opening_point o))) ∷ rows kind on (lines_past s (after s (opening_point o)))
 
-  -- what is found, if a head is
-  abbrev pub FindsIf : Bool → List ℕ → Bool → Point → Opening → Type 0
-  FindsIf true s on p o = Opens s on p o
-  FindsIf false s on p o = heads kind on (lines_from s p) ≡ []
-
   -- the first head from a line on, or that there is none
-  abbrev pub Finds : List ℕ → Bool → Point → Opening → Type 0
-  Finds s on p o = FindsIf o.found s on p o
+  abbrev pub Finds : List ℕ → Bool → Point → Option Opening → Type 0
+  Finds s on p (Some o) = Opens s on p o
+  Finds s on p None = heads kind on (lines_from s p) ≡ []

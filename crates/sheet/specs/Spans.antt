@@ -1,24 +1,19 @@
 -- Tables by places.
-use Rattle.std.specs.Prelude.{ℕ, ◌≡◌, List, [], ◌∷◌, Bool, true, false, length}
+use Rattle.std.specs.Prelude.{ℕ, ◌≡◌, List, [], ◌∷◌, Bool, length, Option, Some, None}
 use Rattle.tokenizer.specs.declared.event.Point.{Point}
 use Rattle.tokenizer.specs.Events.{GfmTableHead, leave, point_of}
 use Rattle.tokenizer.specs.Places.{end_of, lines_from, lines_past}
 use Rattle.tokenizer.specs.Moves.{line_at, after}
-use Rattle.gfm_table.specs.Places.{point_in}
+use Rattle.tokenizer.specs.Points.{start_of}
 use Rattle.edit_map.specs.Tables.{last_exit}
-use Rattle.sheet.specs.declared.spans.Where.{Where}
 use Rattle.sheet.specs.declared.spans.Tail.{Tail}
 use Rattle.sheet.specs.declared.spans.Span.{Span}
 use Rattle.sheet.specs.Walk.{Found, found as found_at, body_rows, heads, rows}
 use Rattle.sheet.specs.From.{AtLine, here}
 
--- the point of a place where a line starts
-abbrev pub start_of : Where → Point
-start_of w = point_in w.line w.at 1
-
 -- the first point of a table
 abbrev pub head_of : Span → Point
-head_of t = point_in t.line t.at 1
+head_of t = start_of t.head
 
 module _ (kind : ℕ → ℕ) where
   -- where the last of the body rows after the line of a point is left; that line's end if there is none
@@ -37,7 +32,6 @@ module _ (kind : ℕ → ℕ) where
 
   -- the places of the table f, before the tables fs
   pub record Spanned (s : List ℕ) (on : Bool) (t : Span) (f : Found) (fs : List Found) : Type 0 where
-    pub found : t.found ≡ true
     pub at : AtLine s (head_of t)
     pub ended : (line_at s (head_of t)).end ≡ 0 → ⊥
     pub table : f ≡ found_at kind on (here s (head_of t)) (here s (after s (head_of t))) (lines_past s (after s (head_of t)))
@@ -48,6 +42,7 @@ module _ (kind : ℕ → ℕ) where
     pub tables : fs ≡ heads kind on (lines_from s (start_of t.next))
 
   -- the first of some tables comes, with its places, or that there is none
-  abbrev pub FirstTable : List ℕ → Bool → Span → List Found → Type 0
-  FirstTable s on t [] = t.found ≡ false
-  FirstTable s on t (f ∷ fs) = Spanned s on t f fs
+  abbrev pub FirstTable : List ℕ → Bool → Option Span → List Found → Type 0
+  FirstTable s on None fs = fs ≡ []
+  FirstTable s on (Some t) [] = ⊥
+  FirstTable s on (Some t) (f ∷ fs) = Spanned s on t f fs

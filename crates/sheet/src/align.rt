@@ -1,9 +1,10 @@
 // The alignments of a table, written to lent slots.
 ghost use Rattle.std.specs.Prelude.{◌≡◌, cond, ◌≤◌, ◌<◌, ◌+◌, eqb, length};
-ghost use Rattle.tokenizer.specs.Bytes.{kind_in, Passes};
-ghost use Rattle.sheet.specs.Aligning.{line_from, aligns_from, line_alignments, ends_over, scanned, align_by, filled, filled_if, zeroed_from, Marked};
+ghost use Rattle.tokenizer.specs.Bytes.{kind_in};
+ghost use Rattle.sheet.specs.Aligning.{line_from, aligns_from, line_alignments, ends_over, scanned, align_by, filled, filled_if, Marked};
 
-use tokenizer::moves::kind_at;
+use tokenizer::kinds::Kind;
+use tokenizer::text::Text;
 
 // One stretch of a delimiter row: the kinds of its first and last byte that is no whitespace, 1 where there is none, and its end.
 #[derive(Clone, Copy)]
@@ -25,10 +26,7 @@ pub struct Mark {
 pub fn unless(k: u8, a: u8, b: u8) -> u8
     ensures { result ≡ cond (eqb k 1) a b }
 {
-    if k == 1 {
-        return a;
-    }
-    b
+    if k == 1 { a } else { b }
 }
 
 // The ends with one more byte of a kind.
@@ -44,9 +42,9 @@ pub fn ends_over(e: Ends, k: u8) -> Ends
 }
 
 // The first stretch from a place on, byte by byte.
-pub fn scan_stretch(s: &[u8], kinds: &[u8], at: usize) -> Ends
-    requires { (length s.now ≤ 65536) × (at ≤ length s.now) × Passes kinds.now }
-    ensures { result ≡ scanned (kind_in kinds.now) at (line_from s.now at) }
+pub fn scan_stretch(text: &Text, at: usize) -> Ends
+    requires { (length text.now.bytes.now ≤ 65536) × (at ≤ length text.now.bytes.now) }
+    ensures { result ≡ scanned (kind_in text.now.kinds.now) at (line_from text.now.bytes.now at) }
 {
     let mut e = Ends {
         first: 1,
@@ -54,16 +52,13 @@ pub fn scan_stretch(s: &[u8], kinds: &[u8], at: usize) -> Ends
         end: at,
     };
     loop {
-        let k = kind_at(s, kinds, e.end);
+        let k = text.kind_at(e.end);
         match k {
-            2 => {
-                return e;
-            }
-            3 => {
+            Kind::End | Kind::Pipe => {
                 return e;
             }
             _ => {
-                e = ends_over(e, k);
+                e = ends_over(e, k as u8);
             }
         }
     }
@@ -86,11 +81,11 @@ pub fn align_of(first: u8, last: u8) -> u8
 }
 
 // The first stretch from a place on: what it tells.
-pub fn mark_at(s: &[u8], kinds: &[u8], at: usize) -> Mark
-    requires { (length s.now ≤ 65536) × (at ≤ length s.now) × Passes kinds.now }
-    ensures { Marked (kind_in kinds.now) (line_from s.now at) at result }
+pub fn mark_at(text: &Text, at: usize) -> Mark
+    requires { (length text.now.bytes.now ≤ 65536) × (at ≤ length text.now.bytes.now) }
+    ensures { Marked (kind_in text.now.kinds.now) (line_from text.now.bytes.now at) at result }
 {
-    let e = scan_stretch(s, kinds, at);
+    let e = scan_stretch(text, at);
     Mark {
         align: align_of(e.first, e.last),
         empty: e.first == 1,
@@ -99,13 +94,13 @@ pub fn mark_at(s: &[u8], kinds: &[u8], at: usize) -> Mark
 }
 
 // Where a delimiter line's values start: after a leading divider.
-pub fn values_from(s: &[u8], kinds: &[u8], at: usize) -> usize
-    requires { (length s.now ≤ 65536) × (at ≤ length s.now) × Passes kinds.now }
-    ensures { (result ≤ length s.now) × (aligns_from (kind_in kinds.now) s.now result ≡ line_alignments (kind_in kinds.now) s.now at) }
+pub fn values_from(text: &Text, at: usize) -> usize
+    requires { (length text.now.bytes.now ≤ 65536) × (at ≤ length text.now.bytes.now) }
+    ensures { (result ≤ length text.now.bytes.now) × (aligns_from (kind_in text.now.kinds.now) text.now.bytes.now result ≡ line_alignments (kind_in text.now.kinds.now) text.now.bytes.now at) }
 {
-    let m = mark_at(s, kinds, at);
+    let m = mark_at(text, at);
     if m.empty {
-        if kind_at(s, kinds, m.end) == 3 {
+        if text.kind_at(m.end) == Kind::Pipe {
             return m.end + 1;
         }
     }
@@ -113,15 +108,15 @@ pub fn values_from(s: &[u8], kinds: &[u8], at: usize) -> usize
 }
 
 // The alignments of the stretches from a place on, into the first of the slots.
-pub fn align_rest(s: &[u8], kinds: &[u8], at: usize, slots: &mut [u8])
-    requires { (length s.now ≤ 65536) × (at ≤ length s.now) × (length (aligns_from (kind_in kinds.now) s.now at) ≤ length slots.old) × Passes kinds.now }
-    ensures { slots.new ≡ filled 0 (aligns_from (kind_in kinds.now) s.now at) slots.old }
+pub fn align_rest(text: &Text, at: usize, slots: &mut [u8])
+    requires { (length text.now.bytes.now ≤ 65536) × (at ≤ length text.now.bytes.now) × (length (aligns_from (kind_in text.now.kinds.now) text.now.bytes.now at) ≤ length slots.old) }
+    ensures { slots.new ≡ filled 0 (aligns_from (kind_in text.now.kinds.now) text.now.bytes.now at) slots.old }
 {
     let mut i = at;
     let mut n: usize = 0;
     loop {
-        let m = mark_at(s, kinds, i);
-        if kind_at(s, kinds, m.end) == 3 {
+        let m = mark_at(text, i);
+        if text.kind_at(m.end) == Kind::Pipe {
             slots[n] = m.align;
             n += 1;
             i = m.end + 1;
@@ -136,30 +131,19 @@ pub fn align_rest(s: &[u8], kinds: &[u8], at: usize, slots: &mut [u8])
 }
 
 // One table's alignments, from its delimiter line, into the first of the slots.
-pub fn align_line(s: &[u8], kinds: &[u8], at: usize, slots: &mut [u8])
-    requires { (length s.now ≤ 65536) × (at ≤ length s.now) × (length (line_alignments (kind_in kinds.now) s.now at) ≤ length slots.old) × Passes kinds.now }
-    ensures { slots.new ≡ filled 0 (line_alignments (kind_in kinds.now) s.now at) slots.old }
+pub fn align_line(text: &Text, at: usize, slots: &mut [u8])
+    requires { (length text.now.bytes.now ≤ 65536) × (at ≤ length text.now.bytes.now) × (length (line_alignments (kind_in text.now.kinds.now) text.now.bytes.now at) ≤ length slots.old) }
+    ensures { slots.new ≡ filled 0 (line_alignments (kind_in text.now.kinds.now) text.now.bytes.now at) slots.old }
 {
-    align_rest(s, kinds, values_from(s, kinds, at), slots);
+    align_rest(text, values_from(text, at), slots);
 }
 
 // The same from a slot on, where there are slots enough: the slots that are left are lent on.
-pub fn align_from(s: &[u8], kinds: &[u8], at: usize, cells: usize, slots: &mut [u8], n: usize)
-    requires { (length s.now ≤ 65536) × (at ≤ length s.now) × (cells ≡ length (line_alignments (kind_in kinds.now) s.now at)) × (n + cells < 1000000000000) × Passes kinds.now }
-    ensures { slots.new ≡ filled_if n (line_alignments (kind_in kinds.now) s.now at) slots.old }
+pub fn align_from(text: &Text, at: usize, cells: usize, slots: &mut [u8], n: usize)
+    requires { (length text.now.bytes.now ≤ 65536) × (at ≤ length text.now.bytes.now) × (cells ≡ length (line_alignments (kind_in text.now.kinds.now) text.now.bytes.now at)) × (n + cells < 1000000000000) }
+    ensures { slots.new ≡ filled_if n (line_alignments (kind_in text.now.kinds.now) text.now.bytes.now at) slots.old }
 {
     if n + cells <= slots.len() {
-        align_line(s, kinds, at, &mut slots[n..]);
-    }
-}
-
-// The slots from a place on become zero, and those before it stay.
-pub fn zero_from(slots: &mut [u8], n: usize)
-    ensures { slots.new ≡ zeroed_from n slots.old }
-{
-    let mut i = n;
-    while i < slots.len() {
-        slots[i] = 0;
-        i += 1;
+        align_line(text, at, &mut slots[n..]);
     }
 }

@@ -4,12 +4,11 @@
 ghost use Rattle.std.specs.Prelude.{◌≡◌, length};
 ghost use Rattle.sheet.specs.Calls.{sheet_of, sheet_raw, sheet_results, sheet_aligned};
 
-use align::zero_from;
-use calls::{Sheet, judge, slots_lent};
+use calls::SheetCounts;
 use tokenizer::event::Event;
-use tokenizer::kinds::refusal;
+use tokenizer::refusal::Refusal;
 use tokenizer::slots::clear_from;
-use write::write_tables;
+use write::read_tables;
 
 pub mod align;
 pub mod calls;
@@ -27,18 +26,16 @@ pub fn sheet(
     raw: &mut [Event],
     results: &mut [Event],
     alignments: &mut [u8],
-) -> Sheet
+) -> Result<SheetCounts, Refusal>
     ensures { (result ≡ sheet_of sheet.now kinds.now code_indented (length raw.old) (length results.old) (length alignments.old))
         × ((raw.new ≡ sheet_raw sheet.now kinds.now code_indented (length raw.old) (length results.old) (length alignments.old))
         × ((results.new ≡ sheet_results sheet.now kinds.now code_indented (length raw.old) (length results.old) (length alignments.old))
         × (alignments.new ≡ sheet_aligned sheet.now kinds.now code_indented (length raw.old) (length results.old) (length alignments.old)))) }
 {
-    let q = refusal(kinds);
-    let c = write_tables(sheet, kinds, q, code_indented, raw, results, alignments);
-    let l = slots_lent(raw.len(), results.len(), alignments.len());
-    let v = judge(q, sheet.len(), c, l);
-    clear_from(raw, v.kept.raw);
-    clear_from(results, v.kept.results);
-    zero_from(alignments, v.kept.aligned);
-    v.answer
+    let answer = read_tables(sheet, kinds, code_indented, raw, results, alignments);
+    let kept = answer.unwrap_or(SheetCounts::NONE);
+    clear_from(raw, kept.events, Event::BLANK);
+    clear_from(results, kept.results, Event::BLANK);
+    clear_from(alignments, kept.alignments, 0);
+    answer
 }

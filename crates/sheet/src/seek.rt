@@ -1,38 +1,27 @@
 // The next head of a sheet, in plain numbers.
-ghost use Rattle.std.specs.Prelude.{◌≡◌, ◌+◌, ◌≤◌, ◌<◌, length, drop};
-ghost use Rattle.tokenizer.specs.Bytes.{kind_in, Passes, kind_of};
+ghost use Rattle.std.specs.Prelude.{◌≡◌, cond, ◌+◌, ◌≤◌, ◌<◌, length, drop};
+ghost use Rattle.tokenizer.specs.Bytes.{kind_in, kind_of};
+ghost use Rattle.tokenizer.specs.Points.{start_of};
 ghost use Rattle.tokenizer.specs.Lines.{line_body, indent};
 ghost use Rattle.gfm_table.specs.Heads.{shallow};
-ghost use Rattle.gfm_table.specs.Delimiters.{value_count};
-ghost use Rattle.gfm_table.specs.Places.{point_in};
+ghost use Rattle.gfm_table.specs.Delimiters.{value_count, positive};
 ghost use Rattle.sheet.specs.Walk.{closes};
 ghost use Rattle.sheet.specs.From.{AtLine, columns_if, columns_of, Finds};
 
 use gfm_table::delimiter::permits_at;
-use gfm_table::pieces::{head_row, spaces_end};
+use gfm_table::pieces::head_row;
 use gfm_table::values::values_row;
-use tokenizer::lines::{line_end, line_stop};
-use tokenizer::moves::kind_at;
+use tokenizer::event::LineStart;
+use tokenizer::kinds::Kind;
+use tokenizer::lines::line_end;
+use tokenizer::text::Text;
 
-// Whether there is a head, where its line starts, where its delimiter row does, and how many columns it has.
+// A head: where its line starts, where its delimiter row does, and how many columns it has.
 #[derive(Clone, Copy)]
 pub struct Opening {
-    pub found: bool,
-    pub line: u32,
-    pub at: u32,
+    pub head: LineStart,
     pub delimiter: u32,
     pub columns: u32,
-}
-
-impl Opening {
-    // No head.
-    pub const NONE: Opening = Opening {
-        found: false,
-        line: 1,
-        at: 0,
-        delimiter: 0,
-        columns: 0,
-    };
 }
 
 // Whether an indent of at most 3 bytes, between two places, is at most 3 units wide: no tab is in it.
@@ -40,108 +29,98 @@ pub fn is_shallow(s: &[u8], at: usize, e: usize) -> bool
     requires { (e ≡ at + length (indent kind_of (line_body (drop at s.now)))) × (e < at + 4) }
     ensures { result ≡ shallow kind_of (line_body (drop at s.now)) }
 {
-    let mut i = at;
-    while i < e {
-        if s[i] == 9 {
+    for i in at..e {
+        if s[i] == b'\t' {
             return false;
         }
-        i += 1;
     }
     true
 }
 
 // Whether the line at a place ends a table: it is blank, or a remark. A byte is a unit or more, so 4 bytes of indent are too many for a remark.
-pub fn closes_at(s: &[u8], kinds: &[u8], at: usize) -> bool
-    requires { Passes kinds.now }
-    ensures { result ≡ closes (kind_in kinds.now) (line_body (drop at s.now)) }
+pub fn closes_at(text: &Text, at: usize) -> bool
+    ensures { result ≡ closes (kind_in text.now.kinds.now) (line_body (drop at text.now.bytes.now)) }
 {
-    let e = spaces_end(s, kinds, at);
-    if kind_at(s, kinds, e) == 2 {
+    let e = text.space_stop(at);
+    if text.kind_at(e) == Kind::End {
         return true;
     }
-    if s[e] == 62 {
+    if text.bytes[e] == b'>' {
         if e - at < 4 {
-            return is_shallow(s, at, e);
+            return is_shallow(text.bytes, at, e);
         }
     }
     false
 }
 
-// The number n, where the line at a place has n cells and more than a lone divider; otherwise 0.
-pub fn columns_if(s: &[u8], kinds: &[u8], at: usize, n: u32) -> u32
-    requires { (length s.now ≤ 65536) × (at ≤ length s.now) × Passes kinds.now }
-    ensures { result ≡ columns_if (kind_in kinds.now) s.now at n }
+// Whether the line at a place has n cells and more than a lone divider.
+pub fn is_head_line(text: &Text, at: usize, n: u32) -> bool
+    requires { (length text.now.bytes.now ≤ 65536) × (at ≤ length text.now.bytes.now) }
+    ensures { cond result n 0 ≡ columns_if (kind_in text.now.kinds.now) text.now.bytes.now at n }
 {
-    let r = head_row(s, kinds, at);
-    if r.size_b <= 1 {
-        return 0;
-    }
-    if n == r.size { n } else { 0 }
+    let r = head_row(text, at);
+    1 < r.size_b && n == r.size
 }
 
-// The columns of the head whose line and delimiter row start at two places, where the row has n values, more than none; 0 where they are no head.
-pub fn columns_of(s: &[u8], kinds: &[u8], at: usize, d: usize, on: bool, n: u32) -> u32
-    requires { (length s.now ≤ 65536) × (at ≤ length s.now) × (d ≤ length s.now) × (n ≡ value_count (kind_in kinds.now) (line_body (drop d s.now))) × (n ≡ 0 → ⊥) × Passes kinds.now }
-    ensures { result ≡ columns_of (kind_in kinds.now) s.now on at d }
+// The columns of the head whose line and delimiter row start at two places, if they are one, where the row has n values, more than none.
+pub fn columns_of(text: &Text, at: usize, d: usize, on: bool, n: u32) -> Option<u32>
+    requires { (length text.now.bytes.now ≤ 65536) × (at ≤ length text.now.bytes.now) × (d ≤ length text.now.bytes.now) × (n ≡ value_count (kind_in text.now.kinds.now) (line_body (drop d text.now.bytes.now))) × (n ≡ 0 → ⊥) }
+    ensures { result ≡ positive (columns_of (kind_in text.now.kinds.now) text.now.bytes.now on at d) }
 {
-    let c = columns_if(s, kinds, at, n);
-    if c == 0 {
-        return 0;
+    if !is_head_line(text, at, n) {
+        return None;
     }
-    if permits_at(s, kinds, d, on) {
-        if permits_at(s, kinds, at, on) {
-            if closes_at(s, kinds, at) {
-                return 0;
-            }
-            return c;
-        }
+    if !permits_at(text, d, on) {
+        return None;
     }
-    0
+    if !permits_at(text, at, on) {
+        return None;
+    }
+    if closes_at(text, at) {
+        return None;
+    }
+    Some(n)
 }
 
 // The same for any two lines. Few are delimiter rows, so that is asked first, and the first byte rules out most.
-pub fn columns_at(s: &[u8], kinds: &[u8], at: usize, d: usize, on: bool) -> u32
-    requires { (length s.now ≤ 65536) × (at ≤ length s.now) × (d ≤ length s.now) × Passes kinds.now }
-    ensures { result ≡ columns_of (kind_in kinds.now) s.now on at d }
+pub fn columns_at(text: &Text, at: usize, d: usize, on: bool) -> Option<u32>
+    requires { (length text.now.bytes.now ≤ 65536) × (at ≤ length text.now.bytes.now) × (d ≤ length text.now.bytes.now) }
+    ensures { result ≡ positive (columns_of (kind_in text.now.kinds.now) text.now.bytes.now on at d) }
 {
-    match kind_at(s, kinds, d) {
-        0 | 2 => {
-            return 0;
+    match text.kind_at(d) {
+        Kind::Other | Kind::End => {
+            return None;
         }
         _ => {}
     }
-    let n = values_row(s, kinds, d);
-    if n == 0 {
-        return 0;
-    }
-    columns_of(s, kinds, at, d, on, n)
+    let n = values_row(text, d)?;
+    columns_of(text, at, d, on, n)
 }
 
 // The first head from a line on: one is tried at each line.
-pub fn next_head(s: &[u8], kinds: &[u8], line: u32, from: u32, on: bool) -> Opening
-    requires { AtLine s.now (point_in line from 1) × Passes kinds.now }
-    ensures { Finds (kind_in kinds.now) s.now on (point_in line from 1) result }
+pub fn next_head(text: &Text, from: LineStart, on: bool) -> Option<Opening>
+    requires { AtLine text.now.bytes.now (start_of from) }
+    ensures { Finds (kind_in text.now.kinds.now) text.now.bytes.now on (start_of from) result }
 {
-    let mut l = line;
-    let mut i = from as usize;
+    let mut head = from;
     loop {
-        let e = line_stop(s, kinds, i);
-        let n = line_end(s, e) as usize;
+        let i = head.at as usize;
+        let e = text.line_stop(i);
+        let n = line_end(text.bytes, e) as usize;
         if n == 0 {
-            return Opening::NONE;
+            return None;
         }
         let d = e + n;
-        let c = columns_at(s, kinds, i, d, on);
-        if c != 0 {
-            return Opening {
-                found: true,
-                line: l,
-                at: i as u32,
+        if let Some(columns) = columns_at(text, i, d, on) {
+            return Some(Opening {
+                head,
                 delimiter: d as u32,
-                columns: c,
-            };
+                columns,
+            });
         }
-        l += 1;
-        i = d;
+        head = LineStart {
+            line: head.line + 1,
+            at: d as u32,
+        };
     }
 }

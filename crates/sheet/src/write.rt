@@ -1,152 +1,95 @@
 // A sheet's tables, written to the slots.
-ghost use Rattle.std.specs.Prelude.{◌≡◌, ◌≤◌, ◌<◌, ◌+◌, length};
-ghost use Rattle.tokenizer.specs.Bytes.{kind_in, Passes, kinds_refusal};
-ghost use Rattle.tokenizer.specs.Places.{lines_from};
+ghost use Rattle.std.specs.Prelude.{◌≡◌, ◌≤◌, IfOk, length};
+ghost use Rattle.tokenizer.specs.Bytes.{kind_in};
 ghost use Rattle.tokenizer.specs.Slots.{wrote};
-ghost use Rattle.sheet.specs.Walk.{heads, raw_of, resolved_of};
-ghost use Rattle.sheet.specs.From.{AtLine};
-ghost use Rattle.sheet.specs.Spans.{start_of, FirstTable};
-ghost use Rattle.sheet.specs.Aligning.{line_alignments, filled_if};
-ghost use Rattle.sheet.specs.Writing.{tables_read, counts_of, one_more, aligned_from};
+ghost use Rattle.sheet.specs.Walk.{tables, raw_of, resolved_of};
+ghost use Rattle.sheet.specs.Calls.{sheet_of, sheet_tables};
+ghost use Rattle.sheet.specs.Writing.{counts_of, aligned_from};
 
 use crate::align::align_from;
+use crate::calls::SheetCounts;
 use crate::results::result_table;
-use crate::spans::{Span, Where, table_from};
+use crate::spans::table_from;
 use crate::tables::raw_table;
-use tokenizer::event::Event;
-use tokenizer::lines::first_point;
-
-// How many tables, raw events, result events and alignments there are: the next slots.
-#[derive(Clone, Copy)]
-pub struct Counts {
-    pub tables: usize,
-    pub raw: usize,
-    pub results: usize,
-    pub aligned: usize,
-}
-
-// The next table, and the counts of those before it.
-#[derive(Clone, Copy)]
-pub struct Tabled {
-    pub next: Span,
-    pub counts: Counts,
-}
-
-// The first table of a sheet by a table of kinds whose questions gave q: none where it is refused or the sheet is too long.
-pub fn first_span(s: &[u8], kinds: &[u8], q: u8, on: bool) -> Span
-    requires { q ≡ kinds_refusal kinds.now }
-    ensures { FirstTable (kind_in kinds.now) s.now on result (tables_read s.now kinds.now on) }
-{
-    if q != 0 {
-        return Span::NONE;
-    }
-    if 65536 < s.len() {
-        return Span::NONE;
-    }
-    let p = first_point(s);
-    table_from(
-        s,
-        kinds,
-        on,
-        Where {
-            line: p.line,
-            at: p.index,
-        },
-    )
-}
-
-// Before the first table.
-pub fn first_table(s: &[u8], kinds: &[u8], q: u8, on: bool) -> Tabled
-    requires { q ≡ kinds_refusal kinds.now }
-    ensures { FirstTable (kind_in kinds.now) s.now on result.next (tables_read s.now kinds.now on) × (result.counts ≡ record { tables = 0; raw = 0; results = 0; aligned = 0 }) }
-{
-    Tabled {
-        next: first_span(s, kinds, q, on),
-        counts: Counts {
-            tables: 0,
-            raw: 0,
-            results: 0,
-            aligned: 0,
-        },
-    }
-}
-
-// Behind a table, whose events end before the slots that are said.
-pub fn next_table(s: &[u8], kinds: &[u8], on: bool, c: Tabled, raw: usize, results: usize) -> Tabled
-    requires { AtLine s.now (start_of c.next.next) × (c.counts.tables < 1000000000000) × (c.counts.aligned + c.next.cells < 1000000000000) × Passes kinds.now }
-    ensures { FirstTable (kind_in kinds.now) s.now on result.next (heads (kind_in kinds.now) on (lines_from s.now (start_of c.next.next)))
-        × (result.counts ≡ one_more c.counts raw results c.next.cells) }
-{
-    let t = c.next;
-    let n = c.counts;
-    let w = t.next;
-    Tabled {
-        next: table_from(s, kinds, on, w),
-        counts: Counts {
-            tables: n.tables + 1,
-            raw,
-            results,
-            aligned: n.aligned + t.cells as usize,
-        },
-    }
-}
-
-// The alignments of the next table, into the slots behind those before it.
-pub fn align_table(s: &[u8], kinds: &[u8], c: Tabled, slots: &mut [u8])
-    requires { (length s.now ≤ 65536) × (c.next.delimiter ≤ length s.now) × (c.next.cells ≡ length (line_alignments (kind_in kinds.now) s.now c.next.delimiter)) × (c.counts.aligned + c.next.cells < 1000000000000) × Passes kinds.now }
-    ensures { slots.new ≡ filled_if c.counts.aligned (line_alignments (kind_in kinds.now) s.now c.next.delimiter) slots.old }
-{
-    let t = c.next;
-    let n = c.counts;
-    align_from(
-        s,
-        kinds,
-        t.delimiter as usize,
-        t.cells as usize,
-        slots,
-        n.aligned,
-    );
-}
+use tokenizer::event::{Event, LineStart};
+use tokenizer::kinds::asked;
+use tokenizer::lines::first_start;
+use tokenizer::refusal::Refusal;
+use tokenizer::text::Text;
 
 // All tables: their raw events, their result events and their alignments, each as far as there are slots, and how many there are.
-pub fn write_tables(
-    s: &[u8],
-    kinds: &[u8],
-    q: u8,
+fn write_tables(
+    text: &Text,
     on: bool,
     raw: &mut [Event],
     results: &mut [Event],
     alignments: &mut [u8],
-) -> Counts
-    requires { q ≡ kinds_refusal kinds.now }
-    ensures { (result ≡ counts_of (tables_read s.now kinds.now on))
-        × ((raw.new ≡ wrote 0 (raw_of (tables_read s.now kinds.now on)) raw.old)
-        × ((results.new ≡ wrote 0 (resolved_of (tables_read s.now kinds.now on)) results.old)
-        × (alignments.new ≡ aligned_from 0 (tables_read s.now kinds.now on) alignments.old))) }
+) -> SheetCounts
+    requires { length text.now.bytes.now ≤ 65536 }
+    ensures { (result ≡ counts_of (tables (kind_in text.now.kinds.now) on text.now.bytes.now))
+        × ((raw.new ≡ wrote 0 (raw_of (tables (kind_in text.now.kinds.now) on text.now.bytes.now)) raw.old)
+        × ((results.new ≡ wrote 0 (resolved_of (tables (kind_in text.now.kinds.now) on text.now.bytes.now)) results.old)
+        × (alignments.new ≡ aligned_from 0 (tables (kind_in text.now.kinds.now) on text.now.bytes.now) alignments.old))) }
 {
-    let mut cur = first_table(s, kinds, q, on);
-    while cur.next.found {
-        let a = raw_table(
-            s,
-            kinds,
-            cur.next.line,
-            cur.next.at,
-            cur.next.stop,
-            raw,
-            cur.counts.raw,
+    let first = LineStart {
+        line: 1,
+        at: first_start(text.bytes) as u32,
+    };
+    let mut counts = SheetCounts::NONE;
+    let mut next = table_from(text, on, first);
+    while let Some(table) = next {
+        let a = raw_table(text, table.head, table.stop, raw, counts.events);
+        let b = result_table(text, table.head, table.stop, results, counts.results);
+        let cells = table.cells as usize;
+        align_from(
+            text,
+            table.delimiter as usize,
+            cells,
+            alignments,
+            counts.alignments,
         );
-        let b = result_table(
-            s,
-            kinds,
-            cur.next.line,
-            cur.next.at,
-            cur.next.stop,
-            results,
-            cur.counts.results,
-        );
-        align_table(s, kinds, cur, alignments);
-        let next = next_table(s, kinds, on, cur, a.slot, b.slot);
-        cur = next;
+        counts = SheetCounts {
+            tables: counts.tables + 1,
+            events: a.slot,
+            results: b.slot,
+            alignments: counts.alignments + cells,
+        };
+        next = table_from(text, on, table.next);
     }
-    cur.counts
+    counts
+}
+
+// The questions of a sheet in their order. Where all are answered yes, its tables are written to the slots.
+pub fn read_tables(
+    sheet: &[u8],
+    kinds: &[u8],
+    code_indented: bool,
+    raw: &mut [Event],
+    results: &mut [Event],
+    alignments: &mut [u8],
+) -> Result<SheetCounts, Refusal>
+    ensures told { result ≡ sheet_of sheet.now kinds.now code_indented (length raw.old) (length results.old) (length alignments.old) }
+    ensures raw { IfOk result (λ _. raw.new ≡ wrote 0 (raw_of (sheet_tables sheet.now kinds.now code_indented (length raw.old) (length results.old) (length alignments.old))) raw.old) }
+    ensures results { IfOk result (λ _. results.new ≡ wrote 0 (resolved_of (sheet_tables sheet.now kinds.now code_indented (length raw.old) (length results.old) (length alignments.old))) results.old) }
+    ensures alignments { IfOk result (λ _. alignments.new ≡ aligned_from 0 (sheet_tables sheet.now kinds.now code_indented (length raw.old) (length results.old) (length alignments.old)) alignments.old) }
+{
+    asked(kinds)?;
+    if 65536 < sheet.len() {
+        return Err(Refusal::SheetTooLong);
+    }
+    let text = Text {
+        bytes: sheet,
+        kinds,
+    };
+    let counts = write_tables(&text, code_indented, raw, results, alignments);
+    if raw.len() < counts.events {
+        return Err(Refusal::TooFewRawSlots);
+    }
+    if results.len() < counts.results {
+        return Err(Refusal::TooFewResultSlots);
+    }
+    if alignments.len() < counts.alignments {
+        return Err(Refusal::TooFewAlignmentSlots);
+    }
+    Ok(counts)
 }
