@@ -1,41 +1,45 @@
--- What the parts of the sheet call make together.
+-- The slots of a whole sheet: what is written to them where it is accepted, cleared behind that; and cleared where it is not.
 -- Assumes nothing.
 use Prim.Native.Nat.{ℕ, ◌≤◌}
 use mathlib.Core.Path.{◌≡◌, refl, ap, sym, ◌∙◌}
-use mathlib.Core.Bool.{Bool, true, false}
+use mathlib.Core.Bool.{Bool, true, false, cond}
 use mathlib.Core.List.{List, []}
 use native.Mathlib.Omega.{arith}
-use borrow.Author.Tests.{ne_eqb, eqb-true, eqb-false, ltb-false, le-leb}
+use borrow.Author.Tests.{eq-eqb, ne_eqb, eqb-true, eqb-false, ltb-false, le-leb}
 use lib.Dec.{eqb, ltb}
 use lib.ListN.{length, replicate}
+use Rattle.std.specs.Prelude.{Result, Ok, Err, IfOk}
+use Rattle.std.specs.Result.{result_unwrap_or}
 use Rattle.tokenizer.specs.declared.event.Event.{Event}
-use Rattle.tokenizer.specs.Bytes.{kind_in, kinds_refusal}
+use Rattle.tokenizer.specs.declared.refusal.Refusal.{Refusal}
+use Rattle.tokenizer.specs.Bytes.{kinds_refusal}
 use Rattle.tokenizer.specs.Events.{blank_event}
-use Rattle.tokenizer.specs.Slots.{slots_of, cleared_from, wrote}
+use Rattle.tokenizer.specs.Slots.{slots_of, cleared, cleared_from, wrote}
+use Rattle.tokenizer.proofs.Answering.{ok-answered, err-answered}
 use Rattle.tokenizer.proofs.Blanks.{slots_none, cleared_all}
 use Rattle.tokenizer.proofs.Writing.{wrote-length, wrote_cleared}
-use Rattle.sheet.specs.declared.calls.Lent.{Lent}
-use Rattle.sheet.specs.declared.calls.Verdict.{Verdict}
-use Rattle.sheet.specs.Walk.{Found, tables, raw_of, resolved_of, aligned_of}
-use Rattle.sheet.specs.Aligning.{zeros, zeroed_from, aligned_into}
-use Rattle.sheet.specs.Writing.{tables_read, counts_of, aligned_from}
-use Rattle.sheet.specs.Calls.{sheet_number, sheet_of, sheet_raw, sheet_results, sheet_aligned, refusal_of, judge_of}
-use Rattle.sheet.proofs.Slots.{zeroed-behind, zeroed-all, aligned-length, aligned-fits}
+use Rattle.gfm_table.specs.Calls.{or_else, slot_refusal}
+use Rattle.sheet.specs.declared.calls.SheetCounts.{SheetCounts}
+use Rattle.sheet.specs.Walk.{Found, raw_of, resolved_of, aligned_of}
+use Rattle.sheet.specs.Aligning.{zeros}
+use Rattle.sheet.specs.Writing.{counts_of, aligned_from}
+use Rattle.sheet.specs.Calls.{long_refusal, result_refusal, align_refusal, sheet_tables, sheet_number, sheet_of, sheet_raw, sheet_results, sheet_aligned}
+use Rattle.sheet.proofs.Slots.{cleared-zeros, aligned-kept}
 
--- slots that are written and then cleared hold blank events
-cleared_blank : (xs zs : List Event) → cleared_from 0 (wrote 0 xs zs) ≡ slots_of (length zs) []
-cleared_blank xs zs = cleared_all (wrote 0 xs zs) ∙ ap (λ (k : ℕ). replicate k blank_event) (wrote-length 0 xs zs) ∙ sym (slots_none (length zs))
+-- a question that none before it answers no, and that it does not either
+or-0 : (a b : ℕ) → or_else a b ≡ 0 → (a ≡ 0) × (b ≡ 0)
+or-0 a b = go (eqb a 0) refl
+    where
+      go : (t : Bool) → eqb a 0 ≡ t → cond t b a ≡ 0 → (a ≡ 0) × (b ≡ 0)
+      go true e h = (eqb-true a 0 e, h)
+      go false e h = absurd (eqb-false a 0 e h)
 
--- those of alignments zeros
-zeroed-none : (fs : List Found) (ks : List ℕ) → zeroed_from 0 (aligned_from 0 fs ks) ≡ zeros (length ks)
-zeroed-none fs ks = zeroed-all (aligned_from 0 fs ks) ∙ ap zeros (aligned-length 0 fs ks)
-
--- and where the alignments fit, they stay
-zeroed-fits : (fs : List Found) (ks : List ℕ) → length (aligned_of fs) ≤ length ks → zeroed_from (length (aligned_of fs)) (aligned_from 0 fs ks) ≡ aligned_into true (aligned_of fs) (length ks)
-zeroed-fits fs ks h =
-    ap (zeroed_from (length (aligned_of fs))) (aligned-fits 0 fs ks (omega (arith, h)))
-    ∙ zeroed-behind (aligned_of fs) ks h
-    ∙ rw (le-leb (length (aligned_of fs)) (length ks) h)
+enough : (q n m : ℕ) → (q ≡ 0 → ⊥) → cond (ltb n m) q 0 ≡ 0 → m ≤ n
+enough q n m z = go (ltb n m) refl
+    where
+      go : (t : Bool) → ltb n m ≡ t → cond t q 0 ≡ 0 → m ≤ n
+      go true e h = absurd (z h)
+      go false e h = ltb-false n m e
 
 module _ (s t : List ℕ) (on : Bool) (ys ms : List Event) (ks : List ℕ) where
   abbrev n : ℕ
@@ -47,63 +51,42 @@ module _ (s t : List ℕ) (on : Bool) (ys ms : List Event) (ks : List ℕ) where
   abbrev k : ℕ
   k = length ks
 
-  -- all tables
   abbrev fs : List Found
-  fs = tables (kind_in t) on s
+  fs = sheet_tables s t on n m k
 
-  -- those that are read
-  abbrev gs : List Found
-  gs = tables_read s t on
+  abbrev none : SheetCounts
+  none = record { tables = 0; events = 0; results = 0; alignments = 0 }
 
-  abbrev lent : Lent
-  lent = record { raw = n; results = m; aligned = k }
+  -- where all questions are answered yes, there are slots enough
+  enough-slots : sheet_number s t on n m k ≡ 0 → (length (raw_of fs) ≤ n) × ((length (resolved_of fs) ≤ m) × (length (aligned_of fs) ≤ k))
+  enough-slots z =
+      let a = or-0 (kinds_refusal t) _ z in
+      let b = or-0 (long_refusal s) _ a.1 in
+      let c = or-0 (slot_refusal n (raw_of fs)) _ b.1 in
+      let d = or-0 (result_refusal m (resolved_of fs)) _ c.1 in
+      (enough 9 n _ (λ e. omega arith) c.0, (enough 12 m _ (λ e. omega arith) d.0, enough 14 k _ (λ e. omega arith) d.1))
 
-  abbrev verdict : Verdict
-  verdict = judge_of (kinds_refusal t) (length s) (counts_of gs) lent
+  -- the slots cleared behind what is kept of an answer
+  pub record Right (r : Result SheetCounts Refusal) (zs ws : List Event) (us : List ℕ) : Type 0 where
+    pub events : cleared_from (result_unwrap_or r none).events zs ≡ sheet_raw s t on n m k
+    pub results : cleared_from (result_unwrap_or r none).results ws ≡ sheet_results s t on n m k
+    pub aligned : cleared 0 (result_unwrap_or r none).alignments us ≡ sheet_aligned s t on n m k
 
-  -- the answer and every slot
-  pub record Right : Type 0 where
-    pub answer : verdict.answer ≡ sheet_of s t on n m k
-    pub events : cleared_from verdict.kept.raw (wrote 0 (raw_of gs) ys) ≡ sheet_raw s t on n m k
-    pub results : cleared_from verdict.kept.results (wrote 0 (resolved_of gs) ms) ≡ sheet_results s t on n m k
-    pub aligned : zeroed_from verdict.kept.aligned (aligned_from 0 gs ks) ≡ sheet_aligned s t on n m k
-
-  -- a number that refuses
-  refused : (q : ℕ) → (q ≡ 0 → ⊥) → refusal_of (kinds_refusal t) (length s) (counts_of gs) lent ≡ q → sheet_number s t on n m k ≡ q → Right
-  unfolding judge_of
-  refused q z v e =
-      let f = ne_eqb q 0 z in
+  pub right : (r : Result SheetCounts Refusal) (zs ws : List Event) (us : List ℕ) → r ≡ sheet_of s t on n m k → length zs ≡ n → length ws ≡ m → length us ≡ k
+      → IfOk r (λ _. zs ≡ wrote 0 (raw_of fs) ys) → IfOk r (λ _. ws ≡ wrote 0 (resolved_of fs) ms) → IfOk r (λ _. us ≡ aligned_from 0 fs ks) → Right r zs ws us
+  right (Ok c) zs ws us e x y z p q w =
+      let a = ok-answered (sheet_number s t on n m k) (counts_of fs) c e in
+      let f = enough-slots a.1 in
+      rw (a.0, p, q, w)
+      (record {
+        events = wrote_cleared (raw_of fs) ys f.0 ∙ rw (eq-eqb _ 0 a.1) refl;
+        results = wrote_cleared (resolved_of fs) ms f.1.0 ∙ rw (eq-eqb _ 0 a.1) refl;
+        aligned = aligned-kept fs ks f.1.1 ∙ rw (eq-eqb _ 0 a.1, le-leb (length (aligned_of fs)) k f.1.1) refl;
+      })
+  right (Err x) zs ws us e a b d p q w =
+      let h = ne_eqb _ 0 (err-answered (sheet_number s t on n m k) (counts_of fs) x e).1 in
       record {
-        answer = rw (v, e, f);
-        events = rw (v, e, f) (cleared_blank (raw_of gs) ys);
-        results = rw (v, e, f) (cleared_blank (resolved_of gs) ms);
-        aligned = rw (v, e, f) (zeroed-none gs ks);
+        events = cleared_all zs ∙ ap (λ i. replicate i blank_event) a ∙ sym (slots_none n) ∙ rw h refl;
+        results = cleared_all ws ∙ ap (λ i. replicate i blank_event) b ∙ sym (slots_none m) ∙ rw h refl;
+        aligned = cleared-zeros us ∙ ap zeros d ∙ rw h refl;
       }
-
-  -- by a table that passes a sheet that is not too long is read whole
-  module _ (g : kinds_refusal t ≡ 0) (h : ltb 65536 (length s) ≡ false) where
-    accepted : ltb n (length (raw_of fs)) ≡ false → ltb m (length (resolved_of fs)) ≡ false → ltb k (length (aligned_of fs)) ≡ false → Right
-    unfolding judge_of
-    accepted x y z =
-        record {
-          answer = rw (g, h, x, y, z);
-          events = rw (g, h, x, y, z) (wrote_cleared (raw_of fs) ys (ltb-false n (length (raw_of fs)) x));
-          results = rw (g, h, x, y, z) (wrote_cleared (resolved_of fs) ms (ltb-false m (length (resolved_of fs)) y));
-          aligned = rw (g, h, x, y, z) (zeroed-fits fs ks (ltb-false k (length (aligned_of fs)) z));
-        }
-
-    -- by the tests of questions 9, 12 and 14
-    right_by : (a b c : Bool) → ltb n (length (raw_of fs)) ≡ a → ltb m (length (resolved_of fs)) ≡ b → ltb k (length (aligned_of fs)) ≡ c → Right
-    right_by true b c x y z = refused 9 (λ e. omega arith) (rw (g, h, x)) (rw (g, h, x))
-    right_by false true c x y z = refused 12 (λ e. omega arith) (rw (g, h, x, y)) (rw (g, h, x, y))
-    right_by false false true x y z = refused 14 (λ e. omega arith) (rw (g, h, x, y, z)) (rw (g, h, x, y, z))
-    right_by false false false x y z = accepted x y z
-
-  -- by the tests of questions 20 to 22 and 1
-  pub right : Right
-  right = go (eqb (kinds_refusal t) 0) (ltb 65536 (length s)) refl refl
-    where
-      go : (a b : Bool) → eqb (kinds_refusal t) 0 ≡ a → ltb 65536 (length s) ≡ b → Right
-      go false b f e = refused (kinds_refusal t) (eqb-false (kinds_refusal t) 0 f) (rw f) (rw f)
-      go true true f e = let g = eqb-true (kinds_refusal t) 0 f in refused 1 (λ z. omega arith) (rw (g, e)) (rw (g, e))
-      go true false f e = right_by (eqb-true (kinds_refusal t) 0 f) e (ltb n (length (raw_of fs))) (ltb m (length (resolved_of fs))) (ltb k (length (aligned_of fs))) refl refl refl

@@ -12,7 +12,8 @@ use borrow.Rule.Slice.PartMut.{mid_of, put_mid}
 use lib.ListN.{length, take, drop, set, take-append-drop, length-take, length-append, length-drop, drop_of_length-le, length-replicate}
 use lib.Seq.{take-suc-set, append_snoc, drop-set-lt, drop-drop, take_at, drop_at, take_all}
 use Rattle.sheet.specs.Walk.{Found, aligned_of}
-use Rattle.sheet.specs.Aligning.{filled, filled_if, zeros, zeroed_from}
+use Rattle.tokenizer.specs.Slots.{cleared}
+use Rattle.sheet.specs.Aligning.{filled, filled_if, zeros}
 use Rattle.sheet.specs.Writing.{aligned_from}
 use Rattle.sheet.proofs.Tests.{test}
 
@@ -29,18 +30,17 @@ filled-last c v out l = sym (filled_none (c + 1) (set out c v)) ∙ filled_next 
 
 -- ## Zeros
 
-zeros-length : (n : ℕ) → length (zeros n) ≡ n
-zeros-length n = length-replicate {A = ℕ} n 0
+-- all slots are cleared
+pub cleared-zeros : (out : List ℕ) → cleared 0 0 out ≡ zeros (length out)
+unfolding cleared
+cleared-zeros [] = refl
+cleared-zeros (x ∷ out) = ap {B = List ℕ} (λ (l : List ℕ). 0 ∷ l) (cleared-zeros out)
 
--- one more slot is zero
-pub zero_next : (i : ℕ) (out : List ℕ) → i < length out → filled (i + 1) (zeros (length out - (i + 1))) (set out i 0) ≡ zeroed_from i out
-zero_next i out l =
-    filled_next i 0 (zeros (length out - (i + 1))) out l
-    ∙ ap (λ (k : ℕ). filled i (zeros k) out) (let e : suc (length out - (i + 1)) ≡ length out - i = omega (arith, l) in e)
-
--- no slot is left
-pub zero_last : (i : ℕ) (out : List ℕ) → length out ≤ i → zeroed_from i out ≡ out
-zero_last i out l = ap (λ (k : ℕ). filled i (zeros k) out) (let e : length out - i ≡ 0 = omega (arith, l) in e) ∙ filled_none i out
+-- those behind some alignments are
+cleared_behind : (xs zs : List ℕ) → cleared 0 (length xs) (xs ++ zs) ≡ xs ++ zeros (length zs)
+unfolding cleared
+cleared_behind [] zs = cleared-zeros zs
+cleared_behind (x ∷ xs) zs = ap {B = List ℕ} (λ (l : List ℕ). x ∷ l) (cleared_behind xs zs)
 
 -- ## Parts
 
@@ -75,29 +75,6 @@ module _ (n : ℕ) (xs out : List ℕ) (h : n + length xs ≤ length out) where
       ∙ ap (λ (z : List ℕ). take n out ++ ((xs ++ drop (0 + length xs) r) ++ z)) (drop_of_length-le r l)
       ∙ ap (λ (z : List ℕ). take n out ++ z) (append-nil (xs ++ drop (0 + length xs) r) ∙ ap (λ (z : List ℕ). xs ++ z) (drop-drop (0 + length xs) n out ∙ ap (λ (i : ℕ). drop i out) m))
 
--- ## All slots
-
--- some alignments and as many zeros as there are further slots
-all-filled : (xs zs out : List ℕ) → length xs + length zs ≡ length out → filled 0 (xs ++ zs) out ≡ xs ++ zs
-all-filled xs zs out e =
-    ap (λ (l : List ℕ). (xs ++ zs) ++ l) (drop_of_length-le out (let h : length out ≤ 0 + length (xs ++ zs) = omega (arith, length-append xs zs, e) in h))
-    ∙ append-nil (xs ++ zs)
-
--- the slots behind some alignments become zero
-pub zeroed-behind : (xs out : List ℕ) → length xs ≤ length out → zeroed_from (length xs) (filled 0 xs out) ≡ xs ++ zeros (length out - length xs)
-zeroed-behind xs out h =
-    let z = zeros (length out - length xs) in
-    let k : 0 + length xs ≤ length out = omega (arith, h) in
-    let e : length xs ≡ 0 + length xs = omega arith in
-    ap (λ (m : ℕ). filled (length xs) (zeros (m - length xs)) (filled 0 xs out)) (filled-length 0 xs out k)
-    ∙ ap (λ (m : ℕ). filled m z (filled 0 xs out)) e
-    ∙ filled_then 0 xs out k z
-    ∙ all-filled xs z out (omega (arith, h, zeros-length (length out - length xs)))
-
--- all slots become zero
-pub zeroed-all : (out : List ℕ) → zeroed_from 0 out ≡ zeros (length out)
-zeroed-all out = ap (λ (k : ℕ). filled 0 (zeros k) out) (let e : length out - 0 ≡ length out = omega arith in e) ∙ all-filled [] (zeros (length out)) out (omega (arith, zeros-length (length out)))
-
 -- ## Slots that are filled where there are enough
 
 pub if-length : (n : ℕ) (xs out : List ℕ) → length (filled_if n xs out) ≡ length out
@@ -126,3 +103,12 @@ aligned-fits n (f ∷ fs) out h =
     ap (aligned_from (n + length xs) fs) (if-fits n xs out k)
     ∙ aligned-fits (n + length xs) fs (filled n xs out) (omega (arith, l, filled-length n xs out k))
     ∙ filled_then n xs out k (aligned_of fs)
+
+-- the alignments of all tables, where there are slots enough, are kept when those behind them are cleared
+pub aligned-kept : (fs : List Found) (ks : List ℕ) → length (aligned_of fs) ≤ length ks → cleared 0 (length (aligned_of fs)) (aligned_from 0 fs ks) ≡ aligned_of fs ++ zeros (length ks - length (aligned_of fs))
+aligned-kept fs ks h =
+    let xs = aligned_of fs in
+    let z : 0 + length xs ≡ length xs = omega arith in
+    ap (cleared 0 (length xs)) (aligned-fits 0 fs ks (omega (arith, h)) ∙ ap (λ (i : ℕ). xs ++ drop i ks) z)
+    ∙ cleared_behind xs (drop (length xs) ks)
+    ∙ ap (λ (i : ℕ). xs ++ zeros i) (length-drop (length xs) ks)

@@ -60,10 +60,6 @@ filled_if n xs out = cond (leb (n + length xs) (length out)) (filled n xs out) o
 abbrev pub zeros : ℕ → List ℕ
 zeros n = replicate n 0
 
--- the slots with zeros from the place n on
-abbrev pub zeroed_from : ℕ → List ℕ → List ℕ
-zeroed_from n out = filled n (zeros (length out - n)) out
-
 -- some alignments and then zeros where they are wanted and fit, otherwise zeros
 abbrev pub aligned_into : Bool → List ℕ → ℕ → List ℕ
 aligned_into go xs n = cond (go && leb (length xs) n) (xs ++ zeros (n - length xs)) (zeros n)
