@@ -8,11 +8,9 @@ ghost use Rattle.edit_map.specs.Answers.{resolve_answer, resolve_slots, align_an
 ghost use Rattle.edit_map.specs.EditAnswer.{edit_answer, edit_slots, edit_results};
 ghost use Rattle.sheet.specs.Calls.{sheet_of, sheet_raw, sheet_results, sheet_aligned};
 ghost use Rattle.tokenizer.specs.Refusals.{answer_number};
-ghost use Rattle.poolsheet.specs.Answers.{number_of_head, counts_of_head, number_of_row, counts_of_row, count_of, number_of_sheet, counts_of_sheet};
+ghost use Rattle.poolsheet.specs.Answers.{counts_of_head, counts_of_row, count_of, counts_of_sheet};
 
-use answers::{
-    count, head_counts, head_number, number, row_counts, row_number, sheet_counts, sheet_number,
-};
+use answers::{count, head_counts, number, row_counts, sheet_counts};
 use edit_map::edit_map::edit;
 use edit_map::infer::align;
 use edit_map::resolve::resolve;
@@ -31,13 +29,13 @@ pub fn poolsheet_head(
     raw: &mut [Event],
     counts: &mut [usize; 3],
 ) -> u8
-    ensures { (result ≡ number_of_head (head_of kind_of sheet.now offset code_indented (lazy || pierced) (length raw.old)))
+    ensures { (result ≡ answer_number (head_of kind_of sheet.now offset code_indented (lazy || pierced) (length raw.old)))
         × ((raw.new ≡ head_slots kind_of sheet.now offset code_indented (lazy || pierced) (length raw.old))
         × (counts.new ≡ counts_of_head (head_of kind_of sheet.now offset code_indented (lazy || pierced) (length raw.old)))) }
 {
     let a = head(sheet, offset, code_indented, lazy, pierced, raw);
     *counts = head_counts(a);
-    head_number(a)
+    number(a)
 }
 
 // A body row at an offset. Counts: events, end.
@@ -48,13 +46,13 @@ pub fn poolsheet_row(
     raw: &mut [Event],
     counts: &mut [usize; 2],
 ) -> u8
-    ensures { (result ≡ number_of_row (row_of kind_of sheet.now offset lazy (length raw.old)))
+    ensures { (result ≡ answer_number (row_of kind_of sheet.now offset lazy (length raw.old)))
         × ((raw.new ≡ row_slots kind_of sheet.now offset lazy (length raw.old))
         × (counts.new ≡ counts_of_row (row_of kind_of sheet.now offset lazy (length raw.old)))) }
 {
     let a = row(sheet, offset, lazy, raw);
     *counts = row_counts(a);
-    row_number(a)
+    number(a)
 }
 
 // The result events of a list of raw tables. Counts: events.
@@ -112,7 +110,7 @@ pub fn poolsheet_sheet(
     alignments: &mut [u8],
     counts: &mut [usize; 4],
 ) -> u8
-    ensures { (result ≡ number_of_sheet (sheet_of sheet.now kinds.now code_indented (length raw.old) (length results.old) (length alignments.old)))
+    ensures { (result ≡ answer_number (sheet_of sheet.now kinds.now code_indented (length raw.old) (length results.old) (length alignments.old)))
         × ((raw.new ≡ sheet_raw sheet.now kinds.now code_indented (length raw.old) (length results.old) (length alignments.old))
         × ((results.new ≡ sheet_results sheet.now kinds.now code_indented (length raw.old) (length results.old) (length alignments.old))
         × ((alignments.new ≡ sheet_aligned sheet.now kinds.now code_indented (length raw.old) (length results.old) (length alignments.old))
@@ -120,5 +118,5 @@ pub fn poolsheet_sheet(
 {
     let a = sheet::sheet(sheet, kinds, code_indented, raw, results, alignments);
     *counts = sheet_counts(a);
-    sheet_number(a)
+    number(a)
 }

@@ -8,7 +8,7 @@ ghost use Rattle.edit_map.specs.Answers.{resolve_answer, resolve_slots, align_an
 ghost use Rattle.edit_map.specs.EditAnswer.{edit_answer, edit_slots, edit_results};
 ghost use Rattle.sheet.specs.Calls.{sheet_of, sheet_raw, sheet_results, sheet_aligned};
 ghost use Rattle.tokenizer.specs.Refusals.{answer_number};
-ghost use Rattle.poolsheet.specs.Answers.{number_of_head, counts_of_head, number_of_row, counts_of_row, count_of, number_of_sheet, counts_of_sheet};
+ghost use Rattle.poolsheet.specs.Answers.{counts_of_head, counts_of_row, count_of, counts_of_sheet};
 
 use tokenizer::event::Event;
 
@@ -23,7 +23,7 @@ pub extern "C" fn poolsheet_head(
     raw: &mut [Event],
     counts: &mut [usize; 3],
 ) -> u8
-    ensures { (result ≡ number_of_head (head_of kind_of sheet.now offset code_indented (lazy || pierced) (length raw.old)))
+    ensures { (result ≡ answer_number (head_of kind_of sheet.now offset code_indented (lazy || pierced) (length raw.old)))
         × ((raw.new ≡ head_slots kind_of sheet.now offset code_indented (lazy || pierced) (length raw.old))
         × (counts.new ≡ counts_of_head (head_of kind_of sheet.now offset code_indented (lazy || pierced) (length raw.old)))) }
 {
@@ -39,7 +39,7 @@ pub extern "C" fn poolsheet_row(
     raw: &mut [Event],
     counts: &mut [usize; 2],
 ) -> u8
-    ensures { (result ≡ number_of_row (row_of kind_of sheet.now offset lazy (length raw.old)))
+    ensures { (result ≡ answer_number (row_of kind_of sheet.now offset lazy (length raw.old)))
         × ((raw.new ≡ row_slots kind_of sheet.now offset lazy (length raw.old))
         × (counts.new ≡ counts_of_row (row_of kind_of sheet.now offset lazy (length raw.old)))) }
 {
@@ -103,7 +103,7 @@ pub extern "C" fn poolsheet_sheet(
     alignments: &mut [u8],
     counts: &mut [usize; 4],
 ) -> u8
-    ensures { (result ≡ number_of_sheet (sheet_of sheet.now kinds.now code_indented (length raw.old) (length results.old) (length alignments.old)))
+    ensures { (result ≡ answer_number (sheet_of sheet.now kinds.now code_indented (length raw.old) (length results.old) (length alignments.old)))
         × ((raw.new ≡ sheet_raw sheet.now kinds.now code_indented (length raw.old) (length results.old) (length alignments.old))
         × ((results.new ≡ sheet_results sheet.now kinds.now code_indented (length raw.old) (length results.old) (length alignments.old))
         × ((alignments.new ≡ sheet_aligned sheet.now kinds.now code_indented (length raw.old) (length results.old) (length alignments.old))
