@@ -1,7 +1,7 @@
 // The words of a request, read one after another.
-ghost use Rattle.std.specs.Prelude.{◌≡◌, ◌<◌, ◌≤◌, ◌↔◌, [], IfSome, IsTrue, length, take, drop, slice_index};
+ghost use Rattle.std.specs.Prelude.{◌≡◌, ℕ, ◌≢◌, ◌<◌, ◌≤◌, ◌↔◌, [], IfSome, IsTrue, length, take, drop, slice_index};
 ghost use Rattle.protocol.specs.Counts.{IsPrefixLen};
-ghost use Rattle.protocol.specs.Words.{digit_of, pair_of, behind, is_hyphen};
+ghost use Rattle.protocol.specs.Words.{digit_of, pair_of, behind, next_word, is_hyphen};
 
 use tokenizer::event::Event;
 
@@ -15,22 +15,20 @@ pub struct Words<'a> {
 impl<'a> Words<'a> {
     // The words of a line behind its first, where that is a name.
     pub fn behind(line: &'a [u8], name: &[u8]) -> Option<Words<'a>>
-        ensures { IfSome result (λ w. length w.rest.now ≤ length line.now) }
+        ensures name { IfSome result (λ _. take (length name.now) line.now ≡ name.now) }
+        ensures rest { IfSome result (λ w. (w.rest.now ≡ drop (next_word line.now (length name.now)) line.now) × (w.separator ≡ 32)) }
     {
         let mut words = Words {
             rest: line,
             separator: b' ',
         };
-        if words.word()? == name {
-            Some(words)
-        } else {
-            None
-        }
+        (words.word()? == name).then_some(words)
     }
 
     // The next word; none where nothing stands behind its separator.
     pub fn word(&mut self) -> Option<&'a [u8]>
         ensures within { length self.new.rest.now ≤ length self.old.rest.now }
+        ensures separator { self.new.separator ≡ self.old.separator }
         ensures word { IfSome result (λ w. (w.now ≡ take (length w.now) self.old.rest.now) × (self.new.rest.now ≡ drop (behind self.old.separator self.old.rest.now (length w.now)) self.old.rest.now)) }
     {
         let text = self.rest;
@@ -54,7 +52,7 @@ impl<'a> Words<'a> {
     pub fn end(&self) -> Option<()>
         ensures { IfSome result (λ _. self.now.rest.now ≡ []) }
     {
-        if self.is_done() { Some(()) } else { None }
+        self.is_done().then_some(())
     }
 
     // A number below 2^64.
@@ -69,8 +67,7 @@ impl<'a> Words<'a> {
         ensures within { length self.new.rest.now ≤ length self.old.rest.now }
         ensures small { IfSome result (λ n. n ≤ most) }
     {
-        let n = self.number()?;
-        if most < n { None } else { Some(n) }
+        self.number().filter(|n| *n <= most)
     }
 
     // A yes or no: 1 or 0.
@@ -136,12 +133,25 @@ impl<'a> Words<'a> {
         }
         Some(slots.len())
     }
+
+    // As many of a list as there are slots.
+    pub fn fill<T: Copy, F: Fn(&mut Words<'a>) -> Option<T>>(
+        &mut self,
+        slots: &mut [T],
+        read: F,
+    ) -> Option<()>
+        requires { F.IsAlwaysCallable read }
+    {
+        let n = self.list(slots, read)?;
+        (n == slots.len()).then_some(())
+    }
 }
 
 // Where a byte stands first, or the text's end.
 pub fn stop_at(text: &[u8], b: u8) -> usize
     ensures within { result ≤ length text.now }
     ensures at { result < length text.now → slice_index text.now result ≡ b }
+    ensures before { (k : ℕ) → k < result → slice_index text.now k ≢ b }
 {
     text.iter().position(|x| *x == b).unwrap_or(text.len())
 }
@@ -153,10 +163,7 @@ fn decimal(word: &[u8]) -> Option<usize> {
     }
     let mut value: usize = 0;
     for b in word {
-        let d = digit(*b)?;
-        if 9 < d {
-            return None;
-        }
+        let d = digit(*b).filter(|d| *d < 10)?;
         value = value.checked_mul(10)?.checked_add(usize::from(d))?;
     }
     Some(value)

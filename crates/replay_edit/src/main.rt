@@ -21,12 +21,6 @@ fn edited(
     print::numbers(out, edits)
 }
 
-// As many events as there are slots, if they are readable.
-fn events(words: &mut Words, slots: &mut [Event]) -> Option<()> {
-    let n = words.list(slots, |w| w.event())?;
-    if n < slots.len() { None } else { Some(()) }
-}
-
 // The answer to one request, if it is readable. An edit is five numbers.
 fn answer(out: &mut impl Write, line: &[u8]) -> Option<io::Result<()>> {
     let mut words = Words::behind(line, b"edit")?;
@@ -39,11 +33,9 @@ fn answer(out: &mut impl Write, line: &[u8]) -> Option<io::Result<()>> {
     let edits = &mut edits[..5 * edit_count];
     let list = &mut list[..list_count];
     let pool = &mut pool[..pool_count];
-    if words.list(edits, |w| w.number())? < edits.len() {
-        return None;
-    }
-    events(&mut words, list)?;
-    events(&mut words, pool)?;
+    words.fill(edits, |w| w.number())?;
+    words.fill(list, |w| w.event())?;
+    words.fill(pool, |w| w.event())?;
     words.end()?;
     Some(edited(out, list, edits, pool, &mut results[..lent]))
 }

@@ -14,7 +14,7 @@ fn change(kinds: &mut [u8], changes: &[u8]) -> Option<()> {
     for [byte, kind] in pairs {
         *kinds.get_mut(*byte as usize)? = *kind;
     }
-    if odd.is_empty() { Some(()) } else { None }
+    odd.is_empty().then_some(())
 }
 
 // The answer to one request, if it is readable. The table is the built-in one's first entries, and zeros behind it.

@@ -32,7 +32,8 @@ fn as_row(out: &mut impl Write, sheet: &[u8], raw: &mut [Event]) -> io::Result<u
     Ok(events)
 }
 
-// What a sheet is read as with n slots: its numbers and its last event.
+// What a sheet is read as with n slots: its numbers and its last event. Not inlined, so that one array at a time is on the stack.
+#[inline(never)]
 fn line<W: Write, F: Fn(&mut W, &[u8], &mut [Event]) -> io::Result<usize>>(
     out: &mut W,
     sheet: &[u8],

@@ -28,7 +28,8 @@ fn scatter(text: &mut [u8], pattern: &[u8; 8]) {
     }
 }
 
-// The answer's numbers and the last events, with n raw, m result and k alignment slots.
+// The answer's numbers and the last events, with n raw, m result and k alignment slots. Not inlined, so that the arrays are on the stack once.
+#[inline(never)]
 fn line(out: &mut impl Write, text: &[u8], n: usize, m: usize, k: usize) -> io::Result<()>
     requires raw { n ≤ 98304 }
     requires results { m ≤ 196608 }
