@@ -1,5 +1,6 @@
 -- What the contracts of the protocol cite.
-pub mod Words
+pub mod Answers
+pub mod Counts
 pub mod Kept
 pub mod Records
-pub mod Counts
+pub mod Words

@@ -1,17 +1,21 @@
 -- Digits, and where words start.
-use Rattle.std.specs.Prelude.{ℕ, ◌+◌, ◌-◌, ◌*◌, Bool, cond, ◌&&◌, List, eqb, ltb, length, get_or}
+use Rattle.std.specs.Prelude.{ℕ, ◌+◌, ◌-◌, ◌*◌, Bool, cond, ◌&&◌, List, eqb, ltb, length, get_or, Option, Some, None, option_map, option_and_then}
 
--- the value of a hexadecimal digit in lower case, 16 for any other byte
-unfoldable pub digit_of : ℕ → ℕ
-digit_of b = cond (ltb b 48) 16 (cond (ltb b 58) (b - 48) (cond (ltb b 97) 16 (cond (ltb b 103) (b - 87) 16)))
+-- the value of a hexadecimal digit in lower case, none for any other byte
+unfoldable pub digit_of : ℕ → Option ℕ
+digit_of b = cond (ltb b 48) None (cond (ltb b 58) (Some (b - 48)) (cond (ltb b 97) None (cond (ltb b 103) (Some (b - 87)) None)))
 
--- the byte of two hexadecimal digits, 256 if they are none
-abbrev pub pair_of : ℕ → ℕ → ℕ
-pair_of a b = cond (ltb 15 (digit_of a)) 256 (cond (ltb 15 (digit_of b)) 256 (digit_of a * 16 + digit_of b))
+-- the byte of two hexadecimal digits, none if they are none
+abbrev pub pair_of : ℕ → ℕ → Option ℕ
+pair_of a b = option_and_then (λ high. option_map (λ low. high * 16 + low) (digit_of b)) (digit_of a)
 
--- where the next word starts, behind the space at a place; else the line's length
+-- where the next word starts, behind the separator at a place; else the line's length
+abbrev pub behind : ℕ → List ℕ → ℕ → ℕ
+behind b s i = cond (eqb (get_or s i 0) b) (i + 1) (length s)
+
+-- the same behind a space
 abbrev pub next_word : List ℕ → ℕ → ℕ
-next_word s i = cond (eqb (get_or s i 0) 32) (i + 1) (length s)
+next_word = behind 32
 
 -- whether a hyphen stands at a place, the last of the line
 abbrev pub is_hyphen : List ℕ → ℕ → Bool

@@ -10,17 +10,7 @@ use std::io::Read;
 pub fn fill(input: &mut impl Read, text: &mut [u8]) -> io::Result<usize>
     ensures { IfOk result (λ n. IsPrefixLen n text.new) }
 {
-    more(input, text, 0)
-}
-
-// Reads on behind the first n bytes, until the buffer is full or the input ends, and tells how many bytes there are.
-pub fn more(input: &mut impl Read, text: &mut [u8], n: usize) -> io::Result<usize>
-    ensures { IfOk result (λ m. IsPrefixLen m text.new) }
-{
-    if text.len() < n {
-        return Ok(0);
-    }
-    let mut done = n;
+    let mut done = 0;
     while done < text.len() {
         let read = input.read(&mut text[done..])?;
         if read == 0 {
@@ -35,16 +25,10 @@ pub fn more(input: &mut impl Read, text: &mut [u8], n: usize) -> io::Result<usiz
 pub fn keep(text: &mut [u8], at: usize, n: usize) -> usize
     ensures { (result ≡ kept_count (length text.old) at n) × (text.new ≡ kept_text text.old at n) }
 {
-    let mut i = at;
-    let mut count = 0;
-    while i < n {
-        if text.len() <= i {
-            return count;
-        }
-        let byte = text[i];
-        text[count] = byte;
-        count += 1;
-        i += 1;
+    let end = text.len().min(n);
+    if end < at {
+        return 0;
     }
-    count
+    text.copy_within(at..end, 0);
+    end - at
 }

@@ -1,218 +1,111 @@
 // An answer, written to a writer.
-ghost use Rattle.std.specs.Prelude.{◌≡◌, ◌≤◌};
+ghost use Rattle.std.specs.Prelude.{◌≡◌, Bool, eqb};
 ghost use Rattle.protocol.specs.Records.{is_blank};
 
-use edit_map::edit_map::Edited;
-use edit_map::infer::Aligned;
-use edit_map::resolve::Resolved;
-use gfm_table::calls::{Head, Row};
 use std::io;
 use std::io::Write;
 use tokenizer::event::Event;
 
-// Some bytes.
-pub fn text(out: &mut impl Write, s: &[u8]) -> io::Result<()> {
-    out.write_all(s)
+// What a slot may hold: blank ones at the end of a list are not written.
+pub trait Slot: Copy {
+    ghost blank: { Self → Bool };
+
+    // Whether it holds nothing.
+    fn is_blank(&self) -> bool
+        ensures { result ≡ blank self.now };
+
+    // A space, and what it holds.
+    fn write(&self, out: &mut impl Write) -> io::Result<()>;
 }
 
-// A line end.
-pub fn line_end(out: &mut impl Write) -> io::Result<()> {
-    text(out, b"\n")
+impl Slot for Event {
+    ghost blank = { is_blank };
+
+    fn is_blank(&self) -> bool {
+        matches!(
+            *self,
+            Event {
+                kind: 0,
+                name: 0,
+                line: 0,
+                column: 0,
+                index: 0,
+                vs: 0,
+                link: 0
+            }
+        )
+    }
+
+    fn write(&self, out: &mut impl Write) -> io::Result<()> {
+        event(out, *self)
+    }
 }
 
-// A number in decimal.
-pub fn number(out: &mut impl Write, n: u64) -> io::Result<()> {
-    write!(out, "{n}")
-}
+impl Slot for u8 {
+    ghost blank = { λ n. eqb n 0 };
 
-// A space and a number.
-pub fn count(out: &mut impl Write, n: usize) -> io::Result<()> {
-    text(out, b" ")?;
-    number(out, n as u64)
-}
+    fn is_blank(&self) -> bool {
+        *self == 0
+    }
 
-// A comma and a number.
-fn item(out: &mut impl Write, n: u32) -> io::Result<()> {
-    text(out, b",")?;
-    number(out, n as u64)
+    fn write(&self, out: &mut impl Write) -> io::Result<()> {
+        write!(out, " {self}")
+    }
 }
 
 // A space and the seven numbers of an event.
 pub fn event(out: &mut impl Write, e: Event) -> io::Result<()> {
-    text(out, b" ")?;
-    number(out, e.kind as u64)?;
-    item(out, e.name as u32)?;
-    item(out, e.line)?;
-    item(out, e.column)?;
-    item(out, e.index)?;
-    item(out, e.vs as u32)?;
-    item(out, e.link as u32)
+    write!(
+        out,
+        " {},{},{},{},{},{},{}",
+        e.kind, e.name, e.line, e.column, e.index, e.vs, e.link
+    )
 }
 
-// Whether a slot is blank.
-pub fn is_blank(e: Event) -> bool
-    ensures { result ≡ is_blank e }
-{
-    if e.kind != 0 {
-        return false;
+// Lent slots: each up to the last that is not blank, and the number of those behind.
+pub fn slots<T: Slot>(out: &mut impl Write, list: &[T]) -> io::Result<()> {
+    let used = list
+        .iter()
+        .rposition(|x| !x.is_blank())
+        .map_or(0, |i| i + 1);
+    write!(out, " |")?;
+    for x in &list[..used] {
+        x.write(out)?;
     }
-    if e.name != 0 {
-        return false;
-    }
-    if e.line != 0 {
-        return false;
-    }
-    if e.column != 0 {
-        return false;
-    }
-    if e.index != 0 {
-        return false;
-    }
-    if e.vs != 0 {
-        return false;
-    }
-    e.link == 0
+    write!(out, " +{}", list.len() - used)
 }
 
-// How many of the first n slots stand up to the last that is not blank; none where n is above 256.
-fn used(raw: [Event; 256], n: usize) -> usize
-    ensures { (result ≤ n) × (result ≤ 256) }
-{
-    if 256 < n {
-        return 0;
-    }
-    let mut m = n;
-    while 0 < m {
-        if !is_blank(raw[m - 1]) {
-            return m;
-        }
-        m -= 1;
-    }
-    m
-}
-
-// The first m events.
-fn events(out: &mut impl Write, raw: [Event; 256], m: usize) -> io::Result<()>
-    requires { m ≤ 256 }
-{
-    let mut i = 0;
-    while i < m {
-        event(out, raw[i])?;
-        i += 1;
+// Numbers.
+pub fn numbers(out: &mut impl Write, list: &[usize]) -> io::Result<()> {
+    write!(out, " |")?;
+    for n in list {
+        write!(out, " {n}")?;
     }
     Ok(())
 }
 
-// The first n slots, at most 256: each up to the last that is not blank, and the number of those behind.
-pub fn slots(out: &mut impl Write, raw: [Event; 256], n: usize) -> io::Result<()> {
-    let m = used(raw, n);
-    text(out, b" |")?;
-    events(out, raw, m)?;
-    text(out, b" +")?;
-    number(out, (n - m) as u64)
-}
-
-// A head's number, events, end and cells.
-pub fn head(out: &mut impl Write, h: Head) -> io::Result<()> {
-    match h {
-        Head::Refused(k) => {
-            number(out, k as u64)?;
-            text(out, b" 0 0 0")
-        }
-        Head::Accepted { events, end, cells } => {
-            number(out, 0)?;
-            count(out, events)?;
-            count(out, end)?;
-            count(out, cells)
-        }
-    }
-}
-
-// A row's number, events and end.
-pub fn row(out: &mut impl Write, r: Row) -> io::Result<()> {
-    match r {
-        Row::Refused(k) => {
-            number(out, k as u64)?;
-            text(out, b" 0 0")
-        }
-        Row::Accepted { events, end } => {
-            number(out, 0)?;
-            count(out, events)?;
-            count(out, end)
-        }
-    }
-}
-
-// A number of records, or a refusal.
-fn counted(out: &mut impl Write, refusal: u8, n: usize) -> io::Result<()> {
-    number(out, refusal as u64)?;
-    count(out, n)
-}
-
-// A resolver's number and events.
-pub fn resolved(out: &mut impl Write, r: Resolved) -> io::Result<()> {
-    match r {
-        Resolved::Refused(k) => counted(out, k, 0),
-        Resolved::Accepted(n) => counted(out, 0, n),
-    }
-}
-
-// An edit's number and events.
-pub fn edited(out: &mut impl Write, e: Edited) -> io::Result<()> {
-    match e {
-        Edited::Refused(k) => counted(out, k, 0),
-        Edited::Accepted(n) => counted(out, 0, n),
-    }
-}
-
-// The number and the alignments of a table.
-pub fn aligned(out: &mut impl Write, a: Aligned) -> io::Result<()> {
-    match a {
-        Aligned::Refused(k) => counted(out, k, 0),
-        Aligned::Accepted(n) => counted(out, 0, n),
-    }
-}
-
-// The first n numbers of an array, none where n is above 256.
-pub fn numbers(out: &mut impl Write, all: [usize; 256], n: usize) -> io::Result<()> {
-    text(out, b" |")?;
-    if 256 < n {
-        return Ok(());
-    }
-    let mut i = 0;
-    while i < n {
-        count(out, all[i])?;
-        i += 1;
+// An answer's number and counts, zeros where it is refused.
+pub fn number<const N: usize>(
+    out: &mut impl Write,
+    answer: Result<[usize; N], u8>,
+) -> io::Result<()> {
+    let (refusal, counts) = match answer {
+        Ok(counts) => (0, counts),
+        Err(refusal) => (refusal, [0; N]),
+    };
+    write!(out, "{refusal}")?;
+    for n in &counts {
+        write!(out, " {n}")?;
     }
     Ok(())
 }
 
-// How many of the first n alignment slots stand up to the last that is not 0; none where n is above 256.
-fn used_alignments(all: [u8; 256], n: usize) -> usize
-    ensures { (result ≤ n) × (result ≤ 256) }
-{
-    if 256 < n {
-        return 0;
-    }
-    let mut m = n;
-    while 0 < m {
-        if all[m - 1] != 0 {
-            return m;
-        }
-        m -= 1;
-    }
-    m
-}
-
-// The first n alignment slots, at most 256, as `slots` writes events.
-pub fn alignments(out: &mut impl Write, all: [u8; 256], n: usize) -> io::Result<()> {
-    let m = used_alignments(all, n);
-    text(out, b" |")?;
-    let mut i = 0;
-    while i < m {
-        count(out, all[i] as usize)?;
-        i += 1;
-    }
-    text(out, b" +")?;
-    number(out, (n - m) as u64)
+// An answer, and the slots that were lent.
+pub fn answer<T: Slot, const N: usize>(
+    out: &mut impl Write,
+    answer: Result<[usize; N], u8>,
+    list: &[T],
+) -> io::Result<()> {
+    number(out, answer)?;
+    slots(out, list)
 }

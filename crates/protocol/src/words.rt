@@ -1,228 +1,199 @@
-// The words of a request. Behind an unreadable word every word is unreadable: the place given is the line's end.
-ghost use Rattle.std.specs.Prelude.{◌≡◌, ◌≤◌, length};
+// The words of a request, read one after another.
+ghost use Rattle.std.specs.Prelude.{◌≡◌, ℕ, ◌≢◌, ◌<◌, ◌≤◌, ◌↔◌, [], IfSome, IsTrue, length, take, drop, slice_index};
 ghost use Rattle.protocol.specs.Counts.{IsPrefixLen};
-ghost use Rattle.protocol.specs.Words.{digit_of, pair_of, next_word, is_hyphen};
+ghost use Rattle.protocol.specs.Words.{digit_of, pair_of, behind, next_word, is_hyphen};
 
-// Whether a number was readable, the number, or 0, and where the next word starts.
+use tokenizer::event::Event;
+
+// What is still to be read of words that are parted by a byte.
 #[derive(Clone, Copy)]
-pub struct ReadNumber {
-    pub good: bool,
-    pub value: u64,
-    pub next: usize,
+pub struct Words<'a> {
+    pub rest: &'a [u8],
+    pub separator: u8,
 }
 
-// A yes or no, and where the next word starts.
-#[derive(Clone, Copy)]
-pub struct ReadFlag {
-    pub value: bool,
-    pub next: usize,
-}
-
-// Whether bytes were readable and had room, and how many were written.
-#[derive(Clone, Copy)]
-pub struct ReadBytes {
-    pub good: bool,
-    pub count: usize,
-}
-
-// Where a byte stands first, from a place on, or the text's end.
-pub fn stop_at(text: &[u8], at: usize, b: u8) -> usize
-    requires { at ≤ length text.now }
-    ensures { (at ≤ result) × (result ≤ length text.now) }
-{
-    let mut i = at;
-    while i < text.len() {
-        if text[i] == b {
-            return i;
-        }
-        i += 1;
-    }
-    i
-}
-
-// Where the line that a place lies in ends.
-pub fn line_stop(text: &[u8], at: usize) -> usize
-    requires { at ≤ length text.now }
-    ensures { (at ≤ result) × (result ≤ length text.now) }
-{
-    stop_at(text, at, 10)
-}
-
-// Where the next word starts, behind the space at a place.
-pub fn next_word(line: &[u8], at: usize) -> usize
-    ensures { (result ≡ next_word line.now at) × (result ≤ length line.now) }
-{
-    if at < line.len() {
-        if line[at] == 32 {
-            return at + 1;
-        }
-    }
-    line.len()
-}
-
-// Where the next word starts, if the line starts with a word.
-pub fn after(line: &[u8], word: &[u8]) -> usize
-    ensures { result ≤ length line.now }
-{
-    if line.len() < word.len() {
-        return line.len();
-    }
-    let mut i = 0;
-    while i < word.len() {
-        if line[i] != word[i] {
-            return line.len();
-        }
-        i += 1;
-    }
-    next_word(line, i)
-}
-
-// The value of a hexadecimal digit in lower case, 16 for any other byte.
-pub fn digit(b: u8) -> u64
-    ensures { (result ≡ digit_of b) × (result ≤ 16) }
-{
-    if b < 48 {
-        return 16;
-    }
-    if b < 58 {
-        return b as u64 - 48;
-    }
-    if b < 97 {
-        return 16;
-    }
-    if b < 103 {
-        return b as u64 - 87;
-    }
-    16
-}
-
-// What an unreadable word gives.
-pub fn unreadable(line: &[u8]) -> ReadNumber
-    ensures { (result.value ≡ 0) × (result.next ≤ length line.now) }
-{
-    ReadNumber {
-        good: false,
-        value: 0,
-        next: line.len(),
-    }
-}
-
-// Decimal digits from a place on, of a number below 2^64, and where they end.
-pub fn digits(line: &[u8], at: usize) -> ReadNumber
-    ensures { result.next ≤ length line.now }
-{
-    let mut value: u64 = 0;
-    let mut i = at;
-    while i < line.len() {
-        let d = digit(line[i]);
-        if 9 < d {
-            break;
-        }
-        if (u64::MAX - d) / 10 < value {
-            return unreadable(line);
-        }
-        value = value * 10 + d;
-        i += 1;
-    }
-    if i == at || line.len() < i {
-        return unreadable(line);
-    }
-    ReadNumber {
-        good: true,
-        value: value,
-        next: i,
-    }
-}
-
-// A number that is a word.
-pub fn number(line: &[u8], at: usize) -> ReadNumber
-    ensures { result.next ≤ length line.now }
-{
-    let d = digits(line, at);
-    let next = next_word(line, d.next);
-    if !d.good || (next == line.len() && d.next != next) {
-        return unreadable(line);
-    }
-    ReadNumber {
-        good: true,
-        value: d.value,
-        next: next,
-    }
-}
-
-// A yes or no: 1 or 0, with a word behind it.
-pub fn flag(line: &[u8], at: usize) -> ReadFlag
-    ensures { result.next ≤ length line.now }
-{
-    let n = number(line, at);
-    if 1 < n.value {
-        return ReadFlag {
-            value: false,
-            next: line.len(),
+impl<'a> Words<'a> {
+    // The words of a line behind its first, where that is a name.
+    pub fn behind(line: &'a [u8], name: &[u8]) -> Option<Words<'a>>
+        ensures name { IfSome result (λ _. take (length name.now) line.now ≡ name.now) }
+        ensures rest { IfSome result (λ w. (w.rest.now ≡ drop (next_word line.now (length name.now)) line.now) × (w.separator ≡ 32)) }
+    {
+        let mut words = Words {
+            rest: line,
+            separator: b' ',
         };
+        (words.word()? == name).then_some(words)
     }
-    ReadFlag {
-        value: n.value == 1,
-        next: n.next,
-    }
-}
 
-// Whether the last word is a hyphen: no bytes.
-pub fn is_hyphen(line: &[u8], at: usize) -> bool
-    ensures { result ≡ is_hyphen line.now at }
-{
-    if at < line.len() {
-        if line.len() - at == 1 {
-            return line[at] == 45;
+    // The next word; none where nothing stands behind its separator.
+    pub fn word(&mut self) -> Option<&'a [u8]>
+        ensures within { length self.new.rest.now ≤ length self.old.rest.now }
+        ensures separator { self.new.separator ≡ self.old.separator }
+        ensures word { IfSome result (λ w. (w.now ≡ take (length w.now) self.old.rest.now) × (self.new.rest.now ≡ drop (behind self.old.separator self.old.rest.now (length w.now)) self.old.rest.now)) }
+    {
+        let text = self.rest;
+        let (word, behind) = text.split_at(stop_at(text, self.separator));
+        self.rest = match behind {
+            [] => behind,
+            [_] => return None,
+            [_, rest @ ..] => rest,
+        };
+        Some(word)
+    }
+
+    // Whether nothing is left.
+    pub fn is_done(&self) -> bool
+        ensures { IsTrue result ↔ (self.now.rest.now ≡ []) }
+    {
+        self.rest.is_empty()
+    }
+
+    // The end, if it is here.
+    pub fn end(&self) -> Option<()>
+        ensures { IfSome result (λ _. self.now.rest.now ≡ []) }
+    {
+        self.is_done().then_some(())
+    }
+
+    // A number below 2^64.
+    pub fn number(&mut self) -> Option<usize>
+        ensures { length self.new.rest.now ≤ length self.old.rest.now }
+    {
+        decimal(self.word()?)
+    }
+
+    // A number up to a bound.
+    pub fn number_to(&mut self, most: usize) -> Option<usize>
+        ensures within { length self.new.rest.now ≤ length self.old.rest.now }
+        ensures small { IfSome result (λ n. n ≤ most) }
+    {
+        self.number().filter(|n| *n <= most)
+    }
+
+    // A yes or no: 1 or 0.
+    pub fn flag(&mut self) -> Option<bool>
+        ensures { length self.new.rest.now ≤ length self.old.rest.now }
+    {
+        Some(self.number_to(1)? == 1)
+    }
+
+    // Bytes, in a lent sheet, and how many; a hyphen is none.
+    pub fn bytes(&mut self, sheet: &mut [u8]) -> Option<usize>
+        ensures { IfSome result (λ n. IsPrefixLen n sheet.new) }
+    {
+        let word = self.word()?;
+        if is_hyphen(word) {
+            return Some(0);
         }
+        let (pairs, odd) = word.as_chunks::<2>();
+        if pairs.is_empty() || !odd.is_empty() || sheet.len() < pairs.len() {
+            return None;
+        }
+        for (slot, [high, low]) in sheet.iter_mut().zip(pairs) {
+            *slot = pair(*high, *low)?;
+        }
+        Some(pairs.len())
     }
-    false
+
+    // An event: seven numbers joined by commas.
+    pub fn event(&mut self) -> Option<Event>
+        ensures { length self.new.rest.now ≤ length self.old.rest.now }
+    {
+        let mut numbers = Words {
+            rest: self.word()?,
+            separator: b',',
+        };
+        let event = Event {
+            kind: numbers.number_to(255)? as u8,
+            name: numbers.number_to(255)? as u8,
+            line: numbers.number_to(4294967295)? as u32,
+            column: numbers.number_to(4294967295)? as u32,
+            index: numbers.number_to(4294967295)? as u32,
+            vs: numbers.number_to(255)? as u8,
+            link: numbers.number_to(255)? as u8,
+        };
+        numbers.end()?;
+        Some(event)
+    }
+
+    // A list in lent slots: what is read until they are full or the line ends, and how many.
+    pub fn list<T: Copy, F: Fn(&mut Words<'a>) -> Option<T>>(
+        &mut self,
+        slots: &mut [T],
+        read: F,
+    ) -> Option<usize>
+        requires { F.IsAlwaysCallable read }
+        ensures { IfSome result (λ n. n ≤ length slots.new) }
+    {
+        for (n, slot) in slots.iter_mut().enumerate() {
+            if self.is_done() {
+                return Some(n);
+            }
+            *slot = read(self)?;
+        }
+        Some(slots.len())
+    }
+
+    // As many of a list as there are slots.
+    pub fn fill<T: Copy, F: Fn(&mut Words<'a>) -> Option<T>>(
+        &mut self,
+        slots: &mut [T],
+        read: F,
+    ) -> Option<()>
+        requires { F.IsAlwaysCallable read }
+    {
+        let n = self.list(slots, read)?;
+        (n == slots.len()).then_some(())
+    }
 }
 
-// The byte of two hexadecimal digits, 256 if they are none.
-pub fn pair(a: u8, b: u8) -> u64
+// Where a byte stands first, or the text's end.
+pub fn stop_at(text: &[u8], b: u8) -> usize
+    ensures within { result ≤ length text.now }
+    ensures at { result < length text.now → slice_index text.now result ≡ b }
+    ensures before { (k : ℕ) → k < result → slice_index text.now k ≢ b }
+{
+    text.iter().position(|x| *x == b).unwrap_or(text.len())
+}
+
+// The number below 2^64 that a word is. (`parse` would take a plus sign.)
+fn decimal(word: &[u8]) -> Option<usize> {
+    if word.is_empty() {
+        return None;
+    }
+    let mut value: usize = 0;
+    for b in word {
+        let d = digit(*b).filter(|d| *d < 10)?;
+        value = value.checked_mul(10)?.checked_add(usize::from(d))?;
+    }
+    Some(value)
+}
+
+// Whether a word is a hyphen: no bytes.
+pub fn is_hyphen(word: &[u8]) -> bool
+    ensures { result ≡ is_hyphen word.now 0 }
+{
+    matches!(word, [b'-'])
+}
+
+// The value of a hexadecimal digit in lower case.
+#[tactic(auto, unfolding(crate::specs::Words::digit_of))]
+pub fn digit(b: u8) -> Option<u8>
+    ensures value { result ≡ digit_of b }
+    ensures small { IfSome result (λ d. d < 16) }
+{
+    match b {
+        b'0'..=b'9' => Some(b - b'0'),
+        b'a'..=b'f' => Some(b - b'a' + 10),
+        _ => None,
+    }
+}
+
+// The byte of two hexadecimal digits.
+pub fn pair(a: u8, b: u8) -> Option<u8>
     ensures { result ≡ pair_of a b }
 {
-    let high = digit(a);
-    let low = digit(b);
-    if 15 < high {
-        return 256;
-    }
-    if 15 < low {
-        return 256;
-    }
-    high * 16 + low
-}
-
-// The bytes of the last word, in a lent sheet.
-pub fn bytes(line: &[u8], at: usize, sheet: &mut [u8]) -> ReadBytes
-    ensures { IsPrefixLen result.count sheet.new }
-{
-    let mut i = at;
-    let mut n = 0;
-    if is_hyphen(line, at) {
-        return ReadBytes {
-            good: true,
-            count: 0,
-        };
-    }
-    while i < line.len() {
-        if line.len() - i < 2 {
-            break;
-        }
-        let b = pair(line[i], line[i + 1]);
-        if 255 < b {
-            break;
-        }
-        if sheet.len() <= n {
-            break;
-        }
-        sheet[n] = b as u8;
-        n += 1;
-        i += 2;
-    }
-    ReadBytes {
-        good: 0 < n && i == line.len(),
-        count: n,
-    }
+    let high = digit(a)?;
+    let low = digit(b)?;
+    Some(high * 16 + low)
 }

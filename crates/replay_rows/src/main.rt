@@ -1,52 +1,29 @@
 // Replays the kept answers for rows: a line of standard input is a request for `row`, and its answer is written. It lends at most 256 slots.
 #![tactic(auto)]
 
-use buffers::row_small;
-use protocol::input::fill;
-use protocol::print;
-use protocol::words::{after, bytes, flag, line_stop, number};
+use gfm_table::row;
+use protocol::words::Words;
+use protocol::{counts, print, replay};
 use std::io;
 use std::io::Write;
+use tokenizer::event::Event;
 
-// The answer to one request, without its line end.
-fn answer(out: &mut impl Write, line: &[u8]) -> io::Result<()> {
-    let offset = number(line, after(line, b"row"));
-    let lazy = flag(line, offset.next);
-    let slots = number(line, lazy.next);
+// The answer to one request, if it is readable.
+fn answer(out: &mut impl Write, line: &[u8]) -> Option<io::Result<()>> {
+    let mut words = Words::behind(line, b"row")?;
+    let offset = words.number()?;
+    let lazy = words.flag()?;
+    let lent = words.number_to(256)?;
     let mut sheet = [0u8; 4096];
-    let read = bytes(line, slots.next, &mut sheet);
-    let n = read.count;
-    if !read.good || 256 < slots.value {
-        return print::text(out, b"?");
-    }
-    let r = row_small(
-        &sheet[..n],
-        offset.value as usize,
-        lazy.value,
-        slots.value as usize,
-    );
-    let answer = r.answer;
-    let raw = r.raw;
-    print::row(out, answer)?;
-    print::slots(out, raw, slots.value as usize)
-}
-
-// The answers to all requests, a line each.
-fn replay(out: &mut impl Write, text: &[u8]) -> io::Result<()> {
-    let mut at = 0;
-    while at < text.len() {
-        let end = line_stop(text, at);
-        answer(out, &text[at..end])?;
-        print::line_end(out)?;
-        at = end + 1;
-    }
-    Ok(())
+    let n = words.bytes(&mut sheet)?;
+    words.end()?;
+    let mut raw = [Event::BLANK; 256];
+    let slots = &mut raw[..lent];
+    let r = row(&sheet[..n], offset, lazy, slots);
+    Some(print::answer(out, counts::row(r), slots))
 }
 
 fn main(rt: HostRuntime) -> io::Result<()> {
     let mut text = [0u8; 131072];
-    let n = fill(&mut rt.reader(), &mut text)?;
-    let mut out = io::writer(&rt);
-    replay(&mut out, &text[..n])?;
-    out.flush()
+    replay::whole(&mut rt.reader(), &mut io::writer(&rt), &mut text, answer)
 }

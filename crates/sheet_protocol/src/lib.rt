@@ -1,154 +1,67 @@
-// A sheet's answer, written in the line protocol: its numbers, and its groups of slots, of arrays of 1,024.
+// A request for a sheet, answered in the line protocol: its numbers, and its groups of slots.
 #![tactic(auto)]
 
-ghost use Rattle.std.specs.Prelude.{◌≤◌};
+ghost use Rattle.std.specs.Prelude.{◌≡◌};
+ghost use Rattle.sheet_protocol.specs.Answers.{sheet_counts};
 
 use protocol::print;
-use protocol::words::{bytes, flag, number};
+use protocol::words::Words;
 use sheet::calls::Sheet;
-use sheet_buffers::read_parts;
+use sheet::sheet;
 use std::io;
 use std::io::Write;
 use tokenizer::event::Event;
 
-// A sheet's number, tables, raw events, result events and alignments.
-pub fn sheet(out: &mut impl Write, s: Sheet) -> io::Result<()> {
+// A sheet's tables, raw events, result events and alignments, or its refusal's number.
+pub fn counts(s: Sheet) -> Result<[usize; 4], u8>
+    ensures { result ≡ sheet_counts s }
+{
     match s {
-        Sheet::Refused(k) => {
-            print::number(out, k as u64)?;
-            print::text(out, b" 0 0 0 0")
-        }
+        Sheet::Refused(k) => Err(k),
         Sheet::Accepted {
             tables,
             events,
             results,
             alignments,
-        } => {
-            print::number(out, 0)?;
-            print::count(out, tables)?;
-            print::count(out, events)?;
-            print::count(out, results)?;
-            print::count(out, alignments)
-        }
+        } => Ok([tables, events, results, alignments]),
     }
 }
 
-// How many of the first n slots stand up to the last that is not blank; none where n is above 1,024.
-fn used(list: [Event; 1024], n: usize) -> usize
-    ensures { (result ≤ n) × (result ≤ 1024) }
-{
-    if 1024 < n {
-        return 0;
-    }
-    let mut m = n;
-    while 0 < m {
-        if !print::is_blank(list[m - 1]) {
-            return m;
-        }
-        m -= 1;
-    }
-    m
-}
-
-// The first m events.
-fn events(out: &mut impl Write, list: [Event; 1024], m: usize) -> io::Result<()>
-    requires { m ≤ 1024 }
-{
-    let mut i = 0;
-    while i < m {
-        print::event(out, list[i])?;
-        i += 1;
-    }
-    Ok(())
-}
-
-// The first n slots, at most 1,024: each up to the last that is not blank, and the number of those behind.
-pub fn slots(out: &mut impl Write, list: [Event; 1024], n: usize) -> io::Result<()> {
-    let m = used(list, n);
-    print::text(out, b" |")?;
-    events(out, list, m)?;
-    print::text(out, b" +")?;
-    print::number(out, (n - m) as u64)
-}
-
-// How many of the first n numbers stand up to the last that is not 0; none where n is above 1,024.
-fn used_numbers(list: [u8; 1024], n: usize) -> usize
-    ensures { (result ≤ n) × (result ≤ 1024) }
-{
-    if 1024 < n {
-        return 0;
-    }
-    let mut m = n;
-    while 0 < m {
-        if list[m - 1] != 0 {
-            return m;
-        }
-        m -= 1;
-    }
-    m
-}
-
-// The first m numbers.
-fn numbers(out: &mut impl Write, list: [u8; 1024], m: usize) -> io::Result<()>
-    requires { m ≤ 1024 }
-{
-    let mut i = 0;
-    while i < m {
-        print::count(out, list[i] as usize)?;
-        i += 1;
-    }
-    Ok(())
-}
-
-// The first n alignment slots, likewise.
-pub fn alignments(out: &mut impl Write, list: [u8; 1024], n: usize) -> io::Result<()> {
-    let m = used_numbers(list, n);
-    print::text(out, b" |")?;
-    numbers(out, list, m)?;
-    print::text(out, b" +")?;
-    print::number(out, (n - m) as u64)
-}
-
-// The answer for a sheet that is read by a table of kinds, with n raw, m result and k alignment slots.
+// The answer by a table of kinds, with lent slots.
 fn reading(
     out: &mut impl Write,
     text: &[u8],
     kinds: &[u8],
     code_indented: bool,
-    n: usize,
-    m: usize,
-    k: usize,
+    raw: &mut [Event],
+    results: &mut [Event],
+    alignments: &mut [u8],
 ) -> io::Result<()> {
-    let r = read_parts(text, kinds, code_indented, n, m, k);
-    let answer = r.answer;
-    let raw = r.raw;
-    let results = r.results;
-    let aligned = r.alignments;
-    sheet(out, answer)?;
-    slots(out, raw, n)?;
-    slots(out, results, m)?;
-    alignments(out, aligned, k)
+    let s = sheet(text, kinds, code_indented, raw, results, alignments);
+    print::answer(out, counts(s), raw)?;
+    print::slots(out, results)?;
+    print::slots(out, alignments)
 }
 
-// The answer to a request whose words for the sheet start at a place. At most 1,024 slots of each kind are lent.
-pub fn answer(out: &mut impl Write, line: &[u8], at: usize, kinds: &[u8]) -> io::Result<()> {
-    let code_indented = flag(line, at);
-    let n = number(line, code_indented.next);
-    let m = number(line, n.next);
-    let k = number(line, m.next);
+// The answer to a request of which the words for the sheet are left, if they are readable. At most 1,024 slots of each kind are lent.
+pub fn answer(out: &mut impl Write, mut words: Words, kinds: &[u8]) -> Option<io::Result<()>> {
+    let code_indented = words.flag()?;
+    let n = words.number_to(1024)?;
+    let m = words.number_to(1024)?;
+    let k = words.number_to(1024)?;
     let mut text = [0u8; 4096];
-    let read = bytes(line, k.next, &mut text);
-    let length = read.count;
-    if !read.good || 1024 < n.value || 1024 < m.value || 1024 < k.value {
-        return print::text(out, b"?");
-    }
-    reading(
+    let length = words.bytes(&mut text)?;
+    words.end()?;
+    let mut raw = [Event::BLANK; 1024];
+    let mut results = [Event::BLANK; 1024];
+    let mut alignments = [0u8; 1024];
+    Some(reading(
         out,
         &text[..length],
         kinds,
-        code_indented.value,
-        n.value as usize,
-        m.value as usize,
-        k.value as usize,
-    )
+        code_indented,
+        &mut raw[..n],
+        &mut results[..m],
+        &mut alignments[..k],
+    ))
 }

@@ -5,158 +5,112 @@
 
 ghost use Rattle.std.specs.Prelude.{◌≤◌};
 
-use buffers::{head_long, row_long};
-use gfm_table::calls::{Head, Row};
-use protocol::print;
+use gfm_table::{head, row};
+use protocol::pattern::repeat;
+use protocol::{counts, print};
 use std::io;
 use std::io::Write;
+use tokenizer::event::Event;
+use tokenizer::slots::at_or_blank;
 
-// The k-th of two bytes in turn.
-fn turn(k: usize, a: u8, b: u8) -> u8 {
-    if k % 2 == 0 {
-        return a;
-    }
-    b
+// As many slots as a line can need.
+const MOST: usize = 131080;
+
+// A sheet read as a head: its numbers are written, and its events counted.
+fn as_head(out: &mut impl Write, sheet: &[u8], raw: &mut [Event]) -> io::Result<usize> {
+    let answer = counts::head(head(sheet, 0, true, false, false, raw));
+    print::number(out, answer)?;
+    let [events, _, _] = answer.unwrap_or([0; 3]);
+    Ok(events)
 }
 
-// Two bytes in turn, from one place up to another.
-fn stripe(sheet: &mut [u8; 65536], from: usize, to: usize, a: u8, b: u8)
-    requires { to ≤ 65536 }
+// A sheet read as a row, likewise.
+fn as_row(out: &mut impl Write, sheet: &[u8], raw: &mut [Event]) -> io::Result<usize> {
+    let answer = counts::row(row(sheet, 0, false, raw));
+    print::number(out, answer)?;
+    let [events, _] = answer.unwrap_or([0; 2]);
+    Ok(events)
+}
+
+// What a sheet is read as with n slots: its numbers and its last event. Not inlined, so that one array at a time is on the stack.
+#[inline(never)]
+fn line<W: Write, F: Fn(&mut W, &[u8], &mut [Event]) -> io::Result<usize>>(
+    out: &mut W,
+    sheet: &[u8],
+    n: usize,
+    read: F,
+) -> io::Result<()>
+    requires lent { n ≤ MOST }
+    requires callable { F.IsAlwaysCallable read }
 {
-    let mut i = from;
-    while i < to {
-        sheet[i] = turn(i - from, a, b);
-        i += 1;
-    }
+    let mut raw = [Event::BLANK; MOST];
+    let slots = &mut raw[..n];
+    let events = read(out, sheet, slots)?;
+    print::event(out, at_or_blank(slots, events.saturating_sub(1)))?;
+    writeln!(out)
 }
 
-// The place of a head's last event.
-fn head_last(h: Head) -> usize {
-    match h {
-        Head::Refused(_) => 0,
-        Head::Accepted {
-            events,
-            end: _,
-            cells: _,
-        } => before(events),
-    }
+// The same with many slots and with none.
+fn lines<W: Write, F: Fn(&mut W, &[u8], &mut [Event]) -> io::Result<usize>>(
+    out: &mut W,
+    sheet: &[u8],
+    read: F,
+) -> io::Result<()>
+    requires { F.IsAlwaysCallable read }
+{
+    line(out, sheet, MOST, &read)?;
+    line(out, sheet, 0, &read)
 }
 
-// The place of a row's last event.
-fn row_last(r: Row) -> usize {
-    match r {
-        Row::Refused(_) => 0,
-        Row::Accepted { events, end: _ } => before(events),
-    }
+// Two bytes in turn as a head line.
+fn worst_head(out: &mut impl Write, pair: &[u8; 2]) -> io::Result<()> {
+    let mut text = [0u8; 65536];
+    let sheet = &mut text[..];
+    repeat(&mut sheet[..65533], pair);
+    sheet[65533..].copy_from_slice(b"\n-|");
+    lines(out, sheet, as_head)
 }
 
-// One less, or 0.
-fn before(n: usize) -> usize {
-    if n == 0 {
-        return 0;
-    }
-    n - 1
+// Two bytes in turn as a delimiter row.
+fn worst_delimiter(out: &mut impl Write, pair: &[u8; 2]) -> io::Result<()> {
+    let mut text = [0u8; 65536];
+    let sheet = &mut text[..];
+    sheet[..4].copy_from_slice(b"a|b\n");
+    repeat(&mut sheet[4..], pair);
+    lines(out, sheet, as_head)
 }
 
-// A head's numbers and its last event, with n slots.
-fn head_line(out: &mut impl Write, sheet: &[u8], n: usize) -> io::Result<()> {
-    let first = head_long(sheet, 0, true, false, false, n, 0);
-    let answer = first.answer;
-    let last = head_long(sheet, 0, true, false, false, n, head_last(answer));
-    let event = last.event;
-    print::head(out, answer)?;
-    print::event(out, event)?;
-    print::line_end(out)
-}
-
-// A row's numbers and its last event, with n slots.
-fn row_line(out: &mut impl Write, sheet: &[u8], n: usize) -> io::Result<()> {
-    let first = row_long(sheet, 0, false, n, 0);
-    let answer = first.answer;
-    let last = row_long(sheet, 0, false, n, row_last(answer));
-    let event = last.event;
-    print::row(out, answer)?;
-    print::event(out, event)?;
-    print::line_end(out)
-}
-
-// A head, with many slots and with none.
-fn heads(out: &mut impl Write, sheet: &[u8; 65536]) -> io::Result<()> {
-    head_line(out, sheet, 131080)?;
-    head_line(out, sheet, 0)
-}
-
-// A row, with many slots and with none.
-fn rows(out: &mut impl Write, sheet: &[u8; 65536]) -> io::Result<()> {
-    row_line(out, sheet, 131080)?;
-    row_line(out, sheet, 0)
-}
-
-// The line as a head line.
-fn as_head(out: &mut impl Write, a: u8, b: u8) -> io::Result<()> {
+// Two bytes in turn as a body row.
+fn worst_row(out: &mut impl Write, pair: &[u8; 2]) -> io::Result<()> {
     let mut sheet = [0u8; 65536];
-    stripe(&mut sheet, 0, 65533, a, b);
-    sheet[65533] = 10;
-    sheet[65534] = 45;
-    sheet[65535] = 124;
-    heads(out, &sheet)
-}
-
-// The line as a delimiter row.
-fn as_delimiter(out: &mut impl Write, a: u8, b: u8) -> io::Result<()> {
-    let mut sheet = [0u8; 65536];
-    sheet[0] = 97;
-    sheet[1] = 124;
-    sheet[2] = 98;
-    sheet[3] = 10;
-    stripe(&mut sheet, 4, 65536, a, b);
-    heads(out, &sheet)
-}
-
-// The line as a body row.
-fn as_row(out: &mut impl Write, a: u8, b: u8) -> io::Result<()> {
-    let mut sheet = [0u8; 65536];
-    stripe(&mut sheet, 0, 65536, a, b);
-    rows(out, &sheet)
-}
-
-// All three.
-fn worst(out: &mut impl Write, a: u8, b: u8) -> io::Result<()> {
-    as_head(out, a, b)?;
-    as_delimiter(out, a, b)?;
-    as_row(out, a, b)
+    repeat(&mut sheet, pair);
+    lines(out, &sheet, as_row)
 }
 
 // As many columns as fit, in both lines of a head.
 fn columns(out: &mut impl Write) -> io::Result<()> {
-    let mut sheet = [0u8; 65536];
-    stripe(&mut sheet, 0, 32766, 97, 124);
-    sheet[32766] = 13;
-    sheet[32767] = 10;
-    stripe(&mut sheet, 32768, 65534, 45, 124);
-    sheet[65534] = 32;
-    sheet[65535] = 32;
-    heads(out, &sheet)
+    let mut text = [b' '; 65536];
+    let sheet = &mut text[..];
+    repeat(&mut sheet[..32766], b"a|");
+    sheet[32766..32768].copy_from_slice(b"\r\n");
+    repeat(&mut sheet[32768..65534], b"-|");
+    lines(out, sheet, as_head)
 }
 
 // One byte too many.
 fn too_long(out: &mut impl Write) -> io::Result<()> {
-    let sheet = [124u8; 65537];
-    head_line(out, &sheet, 131080)?;
-    row_line(out, &sheet, 131080)
+    let sheet = [b'|'; 65537];
+    line(out, &sheet, MOST, as_head)?;
+    line(out, &sheet, MOST, as_row)
 }
 
-// In turn: `|`, `a|`, `a`, backslashes, `a` and a space, tabs, `-|`, `-`.
 fn main(rt: HostRuntime) -> io::Result<()> {
     let mut out = io::writer(&rt);
-    worst(&mut out, 124, 124)?;
-    worst(&mut out, 97, 124)?;
-    worst(&mut out, 97, 97)?;
-    worst(&mut out, 92, 92)?;
-    worst(&mut out, 97, 32)?;
-    worst(&mut out, 9, 9)?;
-    worst(&mut out, 45, 124)?;
-    worst(&mut out, 45, 45)?;
+    for pair in [b"||", b"a|", b"aa", b"\\\\", b"a ", b"\t\t", b"-|", b"--"] {
+        worst_head(&mut out, pair)?;
+        worst_delimiter(&mut out, pair)?;
+        worst_row(&mut out, pair)?;
+    }
     columns(&mut out)?;
     too_long(&mut out)?;
     out.flush()

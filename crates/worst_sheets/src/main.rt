@@ -2,109 +2,51 @@
 // A line is the answer's numbers and its last raw and result event, blank ones where there is none, as the harness gives them for the same requests.
 #![tactic(auto)]
 
-ghost use Rattle.std.specs.Prelude.{◌≤◌};
+ghost use Rattle.std.specs.Prelude.{◌<◌, ◌≤◌, length};
 
+use protocol::pattern::repeat;
 use protocol::print;
-use sheet::calls::Sheet;
-use sheet_long::read_long;
-use sheet_protocol::sheet;
+use sheet::sheet;
+use sheet_protocol::counts;
 use std::io;
 use std::io::Write;
-
-// The byte at a place of a pattern.
-fn byte_of(pattern: &[u8], j: usize) -> u8 {
-    if j < pattern.len() {
-        return pattern[j];
-    }
-    0
-}
-
-// The place after a place of a pattern of n bytes.
-fn next_of(n: usize, j: usize) -> usize {
-    if j < n {
-        if 1 < n - j {
-            return j + 1;
-        }
-    }
-    0
-}
-
-// A pattern over and over, from one place up to another.
-fn fill(text: &mut [u8; 65536], from: usize, to: usize, pattern: &[u8])
-    requires { to ≤ 65536 }
-{
-    let mut i = from;
-    let mut j = 0;
-    while i < to {
-        text[i] = byte_of(pattern, j);
-        j = next_of(pattern.len(), j);
-        i += 1;
-    }
-}
+use tokenizer::event::Event;
+use tokenizer::kinds::builtin;
+use tokenizer::slots::at_or_blank;
 
 // The pseudo-random number after one.
 fn random(x: u64) -> u64 {
     x % 4294967296 * 1664525 % 4294967296 + 1013904223
 }
 
-// Pseudo-random bytes of a pattern of eight, up to a place.
-fn scatter(text: &mut [u8; 65536], to: usize, pattern: &[u8])
-    requires { to ≤ 65536 }
-{
+// Pseudo-random bytes of a pattern of eight.
+fn scatter(text: &mut [u8], pattern: &[u8; 8]) {
     let mut x: u64 = 1;
-    let mut i = 0;
-    while i < to {
+    for b in text.iter_mut() {
         x = random(x);
-        text[i] = byte_of(pattern, (x / 65536 % 8) as usize);
-        i += 1;
+        *b = pattern[(x / 65536 % 8) as usize];
     }
 }
 
-// One less, or 0.
-fn before(n: usize) -> usize {
-    if n == 0 {
-        return 0;
-    }
-    n - 1
-}
-
-// The place of the last raw event.
-fn last_raw(s: Sheet) -> usize {
-    match s {
-        Sheet::Refused(_) => 0,
-        Sheet::Accepted {
-            tables: _,
-            events,
-            results: _,
-            alignments: _,
-        } => before(events),
-    }
-}
-
-// The place of the last result event.
-fn last_result(s: Sheet) -> usize {
-    match s {
-        Sheet::Refused(_) => 0,
-        Sheet::Accepted {
-            tables: _,
-            events: _,
-            results,
-            alignments: _,
-        } => before(results),
-    }
-}
-
-// The answer's numbers and the last events, with n raw, m result and k alignment slots.
-fn line(out: &mut impl Write, text: &[u8], n: usize, m: usize, k: usize) -> io::Result<()> {
-    let first = read_long(text, true, n, m, k, 0, 0);
-    let answer = first.answer;
-    let last = read_long(text, true, n, m, k, last_raw(answer), last_result(answer));
-    let event = last.event;
-    let result = last.result;
-    sheet(out, answer)?;
-    print::event(out, event)?;
-    print::event(out, result)?;
-    print::line_end(out)
+// The answer's numbers and the last events, with n raw, m result and k alignment slots. Not inlined, so that the arrays are on the stack once.
+#[inline(never)]
+fn line(out: &mut impl Write, text: &[u8], n: usize, m: usize, k: usize) -> io::Result<()>
+    requires raw { n ≤ 98304 }
+    requires results { m ≤ 196608 }
+    requires alignments { k ≤ 10240 }
+{
+    let mut raw = [Event::BLANK; 98304];
+    let mut results = [Event::BLANK; 196608];
+    let mut alignments = [0u8; 10240];
+    let raw = &mut raw[..n];
+    let results = &mut results[..m];
+    let alignments = &mut alignments[..k];
+    let answer = counts(sheet(text, &builtin(), true, raw, results, alignments));
+    let [_, events, resulted, _] = answer.unwrap_or([0; 4]);
+    print::number(out, answer)?;
+    print::event(out, at_or_blank(raw, events.saturating_sub(1)))?;
+    print::event(out, at_or_blank(results, resulted.saturating_sub(1)))?;
+    writeln!(out)
 }
 
 // A sheet with many slots, and with none.
@@ -115,37 +57,40 @@ fn lines(out: &mut impl Write, text: &[u8; 65536]) -> io::Result<()> {
 
 // A pattern over and over, up to a place, then line ends.
 fn over(out: &mut impl Write, to: usize, pattern: &[u8]) -> io::Result<()>
-    requires { to ≤ 65536 }
+    requires to { to ≤ 65536 }
+    requires pattern { 0 < length pattern.now }
 {
-    let mut text = [10u8; 65536];
-    fill(&mut text, 0, to, pattern);
+    let mut text = [b'\n'; 65536];
+    repeat(&mut text[..to], pattern);
     lines(out, &text)
 }
 
 // A pattern over and over as the body of a table, up to a place, then line ends.
 fn under(out: &mut impl Write, to: usize, pattern: &[u8]) -> io::Result<()>
-    requires { to ≤ 65536 }
+    requires from { 10 ≤ to }
+    requires to { to ≤ 65536 }
+    requires pattern { 0 < length pattern.now }
 {
-    let mut text = [10u8; 65536];
-    fill(&mut text, 0, 10, b"a|b\n:-|-:\n");
-    fill(&mut text, 10, to, pattern);
+    let mut text = [b'\n'; 65536];
+    repeat(&mut text[..10], b"a|b\n:-|-:\n");
+    repeat(&mut text[10..to], pattern);
     lines(out, &text)
 }
 
 // A table of 10,000 columns.
 fn columns(out: &mut impl Write) -> io::Result<()> {
-    let mut text = [10u8; 65536];
-    fill(&mut text, 0, 20000, b"a|");
-    fill(&mut text, 20001, 40001, b"-|");
+    let mut text = [b'\n'; 65536];
+    repeat(&mut text[..20000], b"a|");
+    repeat(&mut text[20001..40001], b"-|");
     lines(out, &text)
 }
 
 // Pseudo-random bytes up to a place, then line ends.
-fn scattered(out: &mut impl Write, to: usize, pattern: &[u8]) -> io::Result<()>
+fn scattered(out: &mut impl Write, to: usize, pattern: &[u8; 8]) -> io::Result<()>
     requires { to ≤ 65536 }
 {
-    let mut text = [10u8; 65536];
-    scatter(&mut text, to, pattern);
+    let mut text = [b'\n'; 65536];
+    scatter(&mut text[..to], pattern);
     lines(out, &text)
 }
 
@@ -159,14 +104,14 @@ fn short_lines(out: &mut impl Write, text: &[u8; 65536]) -> io::Result<()> {
 
 // A thousand tables.
 fn lacking(out: &mut impl Write) -> io::Result<()> {
-    let mut text = [10u8; 65536];
-    fill(&mut text, 0, 6000, b"a\n:-\n\n");
+    let mut text = [b'\n'; 65536];
+    repeat(&mut text[..6000], b"a\n:-\n\n");
     short_lines(out, &text)
 }
 
 // One byte too many.
 fn too_long(out: &mut impl Write) -> io::Result<()> {
-    let text = [124u8; 65537];
+    let text = [b'|'; 65537];
     line(out, &text, 98304, 196608, 10240)
 }
 

@@ -1,9 +1,0 @@
--- `words::stop_at`: the place stays within the text.
-use Rattle.std.proofs.Common.{length, ◌-◌, ◌≤◌}
-use Rattle.protocol.proofs.words.stop_at.Given as goal
-
-abbrev pub invariant-loop-i : goal.invariant-loop-i
-invariant-loop-i l = (l.at ≤ l.i) × (l.i ≤ length l.text)
-
-abbrev pub decreases-loop-i : goal.decreases-loop-i
-decreases-loop-i l = length l.text - l.i
