@@ -191,9 +191,6 @@ pub record Walking (list pool : List Event) (es : List Edit) (c d : Cursor) : Ty
   pub comes : to_come list pool es c ≡ to_come list pool es d
 
 module _ {list pool : List Event} {es : List Edit} {c d : Cursor} (w : Walking list pool es c d) where
-  pub next_on : (f : Cursor) → Steps list pool es d (step.On f) → Walking list pool es c f
-  next_on f v = record { ready = v.1; comes = w.comes ∙ v.2 }
-
   pub next_given : (e : Event) (f : Cursor) → Steps list pool es d (step.Gives e f) → Ready (length list) (length pool) es f × (to_come list pool es c ≡ e ∷ to_come list pool es f)
   next_given e f v = (v.0, w.comes ∙ v.1)
 
