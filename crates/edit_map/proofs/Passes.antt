@@ -2,7 +2,8 @@
 -- Assumes nothing.
 use Prim.Native.Nat.{ℕ, zero, suc, ◌+◌, ◌<◌, ◌≤◌, ◌^◌}
 use mathlib.Core.Path.{◌≡◌, refl, sym, ap, ◌∙◌}
-use mathlib.Core.Bool.{Bool, true, false, not}
+use mathlib.Core.Bool.{Bool, true, false, cond, not}
+use Rattle.std.specs.Bool.{then_some}
 use mathlib.Core.List.{List, [], ◌∷◌, ◌++◌, append-nil}
 use native.Mathlib.Omega.{arith}
 use lib.ListN.{length, get_or, take, drop, set, take-append-drop, drop_of_length-le}
@@ -61,9 +62,13 @@ pub given_more : (es : List Event) (k n : ℕ) (c : Cursor) → over_at es c ≡
 unfolding given_to
 given_more es k n c h = rw h
 
-pub given_none : (es : List Event) (k : ℕ) (c : Cursor) → over_at es c ≡ false → given_to es k 0 c ≡ None
+pub given_none : (es : List Event) (k : ℕ) (c : Cursor) → given_to es k 0 c ≡ then_some (over_at es c) k
 unfolding given_to
-given_none es k c h = rw h
+given_none es k c = go (over_at es c)
+  where
+    go : (b : Bool) → cond b (Some k) None ≡ then_some b k
+    go true = refl
+    go false = refl
 
 -- the slots of which i are filled, with what the stream makes of the rest: at its end, one more, and no more
 pub filled_over : (es : List Event) (c : Cursor) (i : ℕ) (zs : List Event) → over_at es c ≡ true → zs ≡ take i zs ++ stepped es c (drop i zs)

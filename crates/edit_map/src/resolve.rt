@@ -3,7 +3,7 @@ ghost use Rattle.std.specs.Prelude.{◌≡◌, length};
 ghost use Rattle.edit_map.specs.declared.resolve_accept.Place.TheVariants.{Start};
 ghost use Rattle.gfm_table.specs.declared.stream.Part.TheVariants as Part;
 ghost use Rattle.edit_map.specs.Accept.{at, read_all};
-ghost use Rattle.edit_map.specs.Cursors.{look_of, next_at, stepped, given_to};
+ghost use Rattle.edit_map.specs.Cursors.{look_of, next_at, over_at, stepped, given_to};
 ghost use Rattle.edit_map.specs.Answers.{resolve_answer, resolve_slots};
 ghost use Rattle.edit_map.specs.Streaming.{Streams};
 ghost use Rattle.edit_map.specs.Verdicts.{streamed, streamed_slots};
@@ -62,6 +62,13 @@ pub struct Stream<'a> {
 }
 
 impl Stream<'_> {
+    // Whether no event is to come.
+    fn is_over(&self) -> bool
+        ensures { result ≡ over_at self.now.list.now self.now.cursor }
+    {
+        self.cursor.is_over(at_or_blank(self.list, self.cursor.at))
+    }
+
     // The event of the next turn, which stands where the record at hand stands. Of a list that is not accepted they may never end.
     fn next(&mut self) -> Option<Event>
         ensures { Streams self.old result self.new }
@@ -97,10 +104,7 @@ fn fill(stream: Stream, results: &mut [Event]) -> Option<usize>
             None => return Some(i),
         }
     }
-    match stream.next() {
-        Some(_) => None,
-        None => Some(results.len()),
-    }
+    stream.is_over().then_some(results.len())
 }
 
 // The result events in the slots, and their number, where there are slots for all.

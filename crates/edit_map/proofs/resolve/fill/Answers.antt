@@ -5,8 +5,9 @@ use Prim.Native.Nat.{ℕ, ◌-◌, ◌+◌}
 use native.Mathlib.Omega.{arith}
 use lib.ListN.{length}
 use Rattle.std.proofs.lemmas.List.{set-get_or}
-use Rattle.std.specs.Prelude.{Some}
-use Rattle.edit_map.specs.Cursors.{given_to, next_of}
+use Rattle.std.specs.Bool.{then_some}
+use mathlib.Core.Bool.{Bool}
+use Rattle.edit_map.specs.Cursors.{given_to, next_of, over_at}
 use Rattle.edit_map.proofs.Passes.{filled_over, filled_more, filled_none, given_over, given_more, given_none}
 use Rattle.edit_map.proofs.resolve.fill.Goals as goal
 
@@ -32,18 +33,12 @@ loop-i-preserved c =
           ∙ ap (λ (k : ℕ). given_to es l.i k cur) (omega arith) ∙ l.invariant.2,
     )
 
-pub returns-in-Some-next : goal.returns-in-Some-next
-returns-in-Some-next c =
+pub returns : goal.returns
+returns c =
     let l = c.loop-i in
-    let s = l.stream in (
-      sym (given_none s.list.now l.i s.cursor c.in-Some-next.ensures.1.0) ∙ ap (λ (k : ℕ). given_to s.list.now l.i k s.cursor) (omega arith) ∙ l.invariant.2,
-      filled_none s.list.now s.cursor l.i l.results (omega arith) ∙ l.invariant.1,
-    )
-
-pub returns-in-None-next : goal.returns-in-None-next
-returns-in-None-next c =
-    let l = c.loop-i in
-    let s = l.stream in (
-      ap Some (omega arith) ∙ sym (given_over s.list.now l.i (length c.args.results.now - l.i) s.cursor c.in-None-next.ensures.1.0) ∙ l.invariant.2,
-      filled_none s.list.now s.cursor l.i l.results (omega arith) ∙ l.invariant.1,
+    let es = l.stream.list.now in
+    let cur = l.stream.cursor in (
+      c.then_some.ensures ∙ ap (λ (b : Bool). then_some b (length l.results)) c.is_over.ensures
+          ∙ ap (then_some (over_at es cur)) (omega arith) ∙ sym (given_none es l.i cur) ∙ ap (λ (k : ℕ). given_to es l.i k cur) (omega arith) ∙ l.invariant.2,
+      filled_none es cur l.i l.results (omega arith) ∙ l.invariant.1,
     )
