@@ -13,25 +13,14 @@ use Rattle.tokenizer.proofs.Reading.{left-from}
 use Rattle.tokenizer.proofs.Filling.{take-set, kept_set}
 use Rattle.std.specs.Prelude.{Some, None}
 use Rattle.tokenizer.specs.declared.event.Event.{Event}
-use Rattle.edit_map.specs.declared.resolve_accept.Reading.{Reading}
 use Rattle.edit_map.specs.declared.resolve_step.Cursor.{Cursor}
 use Rattle.edit_map.specs.declared.resolve_look.Look.{Look}
 use Rattle.edit_map.specs.declared.infer_step.Aligning.{Aligning}
 use Rattle.edit_map.specs.Base.{most}
-use Rattle.edit_map.specs.Accept.{read_step, read_all}
 use Rattle.edit_map.specs.Cursors.{look_step, look_all, look_of, next_at, over_at, turn_here, next_of, stepped, given_to}
 use Rattle.edit_map.specs.Turns.{turn_of}
 use Rattle.tokenizer.specs.Slots.{event_at}
 use Rattle.edit_map.specs.AlignSteps.{slot_of, align_step, pauses, scan_all, scan_of, aligns_from}
-
--- a record more is read, and none
-pub read_more : (r : Reading) (e : Event) (es : List Event) → read_all r (e ∷ es) ≡ read_all (read_step r e) es
-unfolding read_all
-read_more r e es = refl
-
-pub read_none : (r : Reading) → read_all r [] ≡ r
-unfolding read_all
-read_none r = refl
 
 -- the turn at a cursor, by what it reads
 pub turned : (es : List Event) (c : Cursor) → (let l = look_of es c (event_at es c.at) in turn_of c.mode (event_at es c.at) (next_at es c) l.ahead l.solid) ≡ turn_here es c

@@ -17,14 +17,11 @@ use tokenizer::refusal::Refusal;
 use tokenizer::slots::{at_or_blank, clear_from};
 
 // A list read to its end.
+#[tactic(auto, unfolding(crate::specs::Accept::read_all))]
 fn accept(list: &[Event]) -> Reading
     ensures { result ≡ read_all (at Start Part.Head) list.now }
 {
-    let mut r = Reading::START;
-    for e in list {
-        r = r.step(*e);
-    }
-    r
+    list.iter().fold(Reading::START, |r, e| r.step(*e))
 }
 
 // The look ahead behind the piece at a cursor, where it asks for one.
@@ -69,7 +66,8 @@ impl Stream<'_> {
         self.cursor.is_over(at_or_blank(self.list, self.cursor.at))
     }
 
-    // The event of the next turn, which stands where the record at hand stands. Of a list that is not accepted they may never end.
+    // The event of the next turn, which stands where the record at hand stands. It is no `Iterator`: of a list that is not accepted the
+    // events may never end, and a loop that calls one has to be proved to end.
     fn next(&mut self) -> Option<Event>
         ensures { Streams self.old result self.new }
     {
