@@ -20,10 +20,6 @@ use Rattle.edit_map.specs.Align.{is_entry, is_exit, is_marker, front, more, outs
 use Rattle.edit_map.specs.AlignSteps.{alignment_of, number_of, slot_of, still, gives, value_step, outside_step, align_in, align_step, start_at, fresh, is_found, settled, done, pauses, scan_all, scan_of, aligns_from}
 use Rattle.edit_map.proofs.Steps.{plus_fits}
 
--- the step of a stage that is known
-pub by_stage : {t : Aligning} {g : Stage} (s : Aligning) (e : Event) → s.stage ≡ g → t ≡ align_in g s e → t ≡ align_step s e
-by_stage s e h q = q ∙ ap (λ (g : Stage). align_in g s e) (sym h)
-
 -- an alignment that a record gives, before others
 abbrev pub also : Maybe Alignment → List ℕ → List ℕ
 also None l = l

@@ -10,54 +10,46 @@ use lib.ListN.{length, drop, replicate, length-drop}
 use native.Mathlib.Nat.{sub-zero}
 use native.Mathlib.Omega.{arith}
 use borrow.Author.Tests.{leb-true}
-use Rattle.std.specs.Prelude.{Result, Ok, Err}
+use Rattle.std.specs.Prelude.{Result, Ok, Err, Option as Maybe, Some, None}
 use Rattle.std.specs.Result.{result_unwrap_or}
 use Rattle.tokenizer.specs.declared.event.Event.{Event}
 use Rattle.tokenizer.specs.Events.{blank_event}
 use Rattle.tokenizer.specs.Slots.{slots_of, cleared_from}
 use Rattle.tokenizer.specs.declared.refusal.Refusal.{Refusal}
 use Rattle.tokenizer.proofs.Blanks.{slots_none, cleared_all}
-use Rattle.edit_map.specs.declared.resolve_step.Cursor.{Cursor}
 use Rattle.edit_map.specs.declared.infer_step.Aligning.{Aligning}
 use Rattle.edit_map.specs.declared.infer_step.Stage.TheVariants.{Opening}
 use Rattle.edit_map.specs.Base.{most}
 use Rattle.edit_map.specs.Accept.{accepts}
 use Rattle.edit_map.specs.TablesOf.{resolved_list}
-use Rattle.edit_map.specs.Cursors.{over_at, front, stepped, cursor_after}
+use Rattle.edit_map.specs.Cursors.{front, stepped, given_to}
 use Rattle.edit_map.specs.AlignSteps.{start_at, is_found, done, scan_of, aligns_from}
 use Rattle.edit_map.specs.Answers.{resolve_answer, resolve_slots, aligned_of, align_answer, aligned_slots, align_slots}
-use Rattle.edit_map.specs.Verdicts.{streamed, streamed_slots, told_of}
+use Rattle.edit_map.specs.Verdicts.{streamed_by, streamed, streamed_slots, told_of}
 use Rattle.edit_map.proofs.Steps.{as_many, Resolves}
 use Rattle.edit_map.proofs.Resolving.{resolve_stream}
 use Rattle.edit_map.proofs.Aligns.{align_given, aligns, counted, zeroed, fills}
 
 -- ## Resolve
 
-module _ (es ys : List Event) (fits : length es ≤ most) (small : length ys ≤ most) where
-  -- the number of slots; the stream after a step for each slot; the result events
+module _ (es ys : List Event) (fits : length es ≤ most) where
+  -- the number of slots, and the result events
   abbrev n : ℕ
   n = length ys
 
-  abbrev last : Cursor
-  last = cursor_after es n front
-
   abbrev out : List Event
   out = resolved_list es
-
-  -- the answer of a stream that ends, where t tells whether it is at its end after all slots
-  abbrev told : Bool → Result ℕ Refusal
-  told t = cond t (Ok last.given) (Err Refusal.TooFewResultSlots)
 
   pub streamed-answer : streamed es n ≡ resolve_answer es n
   unfolding streamed resolve_answer
   streamed-answer = go (accepts es) refl
     where
-      fit : (b : Bool) → leb (length out) n ≡ b → Resolves es out ys → told b ≡ cond b (Ok (length out)) (Err Refusal.TooFewResultSlots)
-      fit true e r = ap Ok (r.count (leb-true (length out) n e))
-      fit false e r = refl
+      fit : (b : Bool) → streamed_by (cond b (Some (length out)) None) ≡ cond b (Ok (length out)) (Err Refusal.TooFewResultSlots)
+      fit true = refl
+      fit false = refl
 
-      go : (b : Bool) → accepts es ≡ b → cond b (told (over_at es last)) (Err Refusal.NoRawTables) ≡ cond b (cond (leb (length out) n) (Ok (length out)) (Err Refusal.TooFewResultSlots)) (Err Refusal.NoRawTables)
-      go true e = let r = resolve_stream es e fits ys small in ap told r.done ∙ fit (leb (length out) n) refl r
+      go : (b : Bool) → accepts es ≡ b → cond b (streamed_by (given_to es 0 n front)) (Err Refusal.NoRawTables) ≡ cond b (cond (leb (length out) n) (Ok (length out)) (Err Refusal.TooFewResultSlots)) (Err Refusal.NoRawTables)
+      go true e = ap streamed_by (resolve_stream es e fits ys).count ∙ fit (leb (length out) n)
       go false e = refl
 
   -- slots that are all cleared
@@ -68,16 +60,15 @@ module _ (es ys : List Event) (fits : length es ≤ most) (small : length ys ≤
   unfolding streamed streamed_slots resolve_slots
   streamed_slots_lem = go (accepts es) refl
     where
-      fit : (b : Bool) → leb (length out) n ≡ b → Resolves es out ys → cleared_from (result_unwrap_or (told b) 0) (stepped es front ys) ≡ slots_of n (cond b out [])
-      fit true e r =
-          let all = leb-true (length out) n e in
-          ap (λ (k : ℕ). cleared_from k (stepped es front ys)) (r.count all) ∙ r.records all
+      kept : Maybe ℕ → List Event
+      kept o = cleared_from (result_unwrap_or (streamed_by o) 0) (stepped es front ys)
+
+      fit : (b : Bool) → leb (length out) n ≡ b → Resolves es out ys → kept (cond b (Some (length out)) None) ≡ slots_of n (cond b out [])
+      fit true e r = r.records (leb-true (length out) n e)
       fit false e r = none_kept (stepped es front ys) (as_many es front ys)
 
-      go : (b : Bool) → accepts es ≡ b → cleared_from (result_unwrap_or (cond b (told (over_at es last)) (Err Refusal.NoRawTables)) 0) (cond b (stepped es front ys) ys) ≡ slots_of n (cond (b && leb (length out) n) out [])
-      go true e =
-          let r = resolve_stream es e fits ys small in
-          ap (λ (b : Bool). cleared_from (result_unwrap_or (told b) 0) (stepped es front ys)) r.done ∙ fit (leb (length out) n) refl r
+      go : (b : Bool) → accepts es ≡ b → cleared_from (result_unwrap_or (cond b (streamed_by (given_to es 0 n front)) (Err Refusal.NoRawTables)) 0) (cond b (stepped es front ys) ys) ≡ slots_of n (cond (b && leb (length out) n) out [])
+      go true e = let r = resolve_stream es e fits ys in ap kept r.count ∙ fit (leb (length out) n) refl r
       go false e = none_kept ys refl
 
 -- ## Align

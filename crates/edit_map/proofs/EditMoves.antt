@@ -128,18 +128,15 @@ module _ (list pool : List Event) (es : List Edit) (i s left off next : ℕ) (r 
     last-is : get_or (drop i es) k no_edit ≡ e
     last-is = get_or-drop i es k no_edit ∙ sym q
 
-    pub back_room : off < e.adds → e.from + off < length pool
-    back_room o = omega (arith, rw (← q) at (fit_pool (length list) (length pool) es r.fit (i + k) (omega (arith, r.stand.1, r.stand.2)) (rw (← q) (omega arith))))
+    pub back_fits : off < e.adds → e.from + e.adds ≤ length pool
+    back_fits o = rw (← q) at (fit_pool (length list) (length pool) es r.fit (i + k) (omega (arith, r.stand.1, r.stand.2)) (rw (← q) (omega arith)))
 
     pub back_pool : (e.before ≡ 0 → ⊥) → off < e.adds → Steps list pool es (Back i s left off next) (step.Gives (event_at pool (e.from + off)) (Back i s left (off + 1) next))
     unfolding backward
     back_pool b o = (
       keeps r r.stand,
-      rw (l, last-is, ne_eqb e.before 0 b, addition_on pool e off o room),
+      rw (l, last-is, ne_eqb e.before 0 b, addition_on pool e off o (back_fits o)),
     )
-      where
-        room : e.from + e.adds ≤ length pool
-        room = rw (← q) at (fit_pool (length list) (length pool) es r.fit (i + k) (omega (arith, r.stand.1, r.stand.2)) (rw (← q) (omega arith)))
 
     pub back_on : (e.before ≡ 0) ⊎ (e.adds ≤ off) → Steps list pool es (Back i s left off next) (step.On (Back i s k 0 next))
     unfolding backward
@@ -159,18 +156,15 @@ module _ (list pool : List Event) (es : List Edit) (i left off next : ℕ) (r : 
     first-is : get_or (drop i es) 0 no_edit ≡ e
     first-is = get_or-drop i es 0 no_edit ∙ rw (add-zero i) (sym q)
 
-    pub forth_room : off < e.adds → e.from + off < length pool
-    forth_room o = omega (arith, rw (← q) at (fit_pool (length list) (length pool) es r.fit i (omega (arith, r.stand.1)) (rw (← q) (omega arith))))
+    pub forth_fits : off < e.adds → e.from + e.adds ≤ length pool
+    forth_fits o = rw (← q) at (fit_pool (length list) (length pool) es r.fit i (omega (arith, r.stand.1)) (rw (← q) (omega arith)))
 
     pub forth_pool : e.before ≡ 0 → off < e.adds → Steps list pool es (Forth i left off next) (step.Gives (event_at pool (e.from + off)) (Forth i left (off + 1) next))
     unfolding forward
     forth_pool b o = (
       keeps r r.stand,
-      rw (l, first-is, eq-eqb e.before 0 b, addition_on pool e off o room),
+      rw (l, first-is, eq-eqb e.before 0 b, addition_on pool e off o (forth_fits o)),
     )
-      where
-        room : e.from + e.adds ≤ length pool
-        room = rw (← q) at (fit_pool (length list) (length pool) es r.fit i (omega (arith, r.stand.1)) (rw (← q) (omega arith)))
 
     pub forth_on : (e.before ≡ 0 → ⊥) ⊎ (e.adds ≤ off) → Steps list pool es (Forth i left off next) (step.On (Forth (i + 1) k 0 next))
     unfolding forward
@@ -191,9 +185,6 @@ pub record Walking (list pool : List Event) (es : List Edit) (c d : Cursor) : Ty
   pub comes : to_come list pool es c ≡ to_come list pool es d
 
 module _ {list pool : List Event} {es : List Edit} {c d : Cursor} (w : Walking list pool es c d) where
-  pub next_on : (f : Cursor) → Steps list pool es d (step.On f) → Walking list pool es c f
-  next_on f v = record { ready = v.1; comes = w.comes ∙ v.2 }
-
   pub next_given : (e : Event) (f : Cursor) → Steps list pool es d (step.Gives e f) → Ready (length list) (length pool) es f × (to_come list pool es c ≡ e ∷ to_come list pool es f)
   next_given e f v = (v.0, w.comes ∙ v.1)
 

@@ -2,7 +2,8 @@
 -- Assumes nothing.
 use Prim.Native.Nat.{ℕ, zero, suc, ◌+◌, ◌<◌, ◌≤◌, ◌^◌}
 use mathlib.Core.Path.{◌≡◌, refl, sym, ap, ◌∙◌}
-use mathlib.Core.Bool.{Bool, true, false, not}
+use mathlib.Core.Bool.{Bool, true, false, cond, not}
+use Rattle.std.specs.Bool.{then_some}
 use mathlib.Core.List.{List, [], ◌∷◌, ◌++◌, append-nil}
 use native.Mathlib.Omega.{arith}
 use lib.ListN.{length, get_or, take, drop, set, take-append-drop, drop_of_length-le}
@@ -10,64 +11,63 @@ use lib.Seq.{take_all}
 use Rattle.tokenizer.specs.Events.{blank_event}
 use Rattle.tokenizer.proofs.Reading.{left-from}
 use Rattle.tokenizer.proofs.Filling.{take-set, kept_set}
+use Rattle.std.specs.Prelude.{Some, None}
 use Rattle.tokenizer.specs.declared.event.Event.{Event}
-use Rattle.tokenizer.specs.Slots.{event_at}
-use Rattle.edit_map.specs.declared.resolve_accept.Reading.{Reading}
 use Rattle.edit_map.specs.declared.resolve_step.Cursor.{Cursor}
 use Rattle.edit_map.specs.declared.resolve_look.Look.{Look}
 use Rattle.edit_map.specs.declared.infer_step.Aligning.{Aligning}
-use Rattle.edit_map.specs.Base.{most, placed_at}
-use Rattle.edit_map.specs.Accept.{read_step, read_all}
-use Rattle.edit_map.specs.Cursors.{look_step, look_all, over_at, step_at, stepped, cursor_after}
+use Rattle.edit_map.specs.Base.{most}
+use Rattle.edit_map.specs.Cursors.{look_step, look_all, look_of, next_at, over_at, turn_here, next_of, stepped, given_to}
+use Rattle.edit_map.specs.Turns.{turn_of}
+use Rattle.tokenizer.specs.Slots.{event_at}
 use Rattle.edit_map.specs.AlignSteps.{slot_of, align_step, pauses, scan_all, scan_of, aligns_from}
-use Rattle.edit_map.proofs.Steps.{placed-is}
 
--- a record more is read, and none
-pub read_more : (r : Reading) (e : Event) (es : List Event) → read_all r (e ∷ es) ≡ read_all (read_step r e) es
-unfolding read_all
-read_more r e es = refl
+-- the turn at a cursor, by what it reads
+pub turned : (es : List Event) (c : Cursor) → (let l = look_of es c (event_at es c.at) in turn_of c.mode (event_at es c.at) (next_at es c) l.ahead l.solid) ≡ turn_here es c
+unfolding turn_here
+turned es c = refl
 
-pub read_none : (r : Reading) → read_all r [] ≡ r
-unfolding read_all
-read_none r = refl
-
--- at the end of the stream the slots stay; before it a slot more is filled, at the point of the record at hand
+-- at the end of the stream the slots stay; before it a slot more is filled
 pub stepped_over : (es : List Event) (c : Cursor) (ys : List Event) → over_at es c ≡ true → stepped es c ys ≡ ys
 unfolding stepped
 stepped_over es c [] h = refl
 stepped_over es c (y ∷ ys) h = rw h
 
-pub stepped_more : (es : List Event) (c : Cursor) (y : Event) (ys : List Event) → over_at es c ≡ false → stepped es c (y ∷ ys) ≡ placed_at (event_at es c.at) (step_at es c).event ∷ stepped es (step_at es c).next ys
+pub stepped_more : (es : List Event) (c : Cursor) (y : Event) (ys : List Event) → over_at es c ≡ false → stepped es c (y ∷ ys) ≡ (turn_here es c).event ∷ stepped es (next_of es c) ys
 unfolding stepped
-stepped_more es c y ys h = rw (h, placed-is es c)
+stepped_more es c y ys h = rw h
 
 pub stepped_none : (es : List Event) (c : Cursor) → stepped es c [] ≡ []
 unfolding stepped
 stepped_none es c = refl
 
--- the same for the cursor
-pub after_over : (es : List Event) (n : ℕ) (c : Cursor) → over_at es c ≡ true → cursor_after es n c ≡ c
-unfolding cursor_after
-after_over es zero c h = refl
-after_over es (suc n) c h = rw h
+-- the same for the number of records
+pub given_over : (es : List Event) (k n : ℕ) (c : Cursor) → over_at es c ≡ true → given_to es k n c ≡ Some k
+unfolding given_to
+given_over es k zero c h = rw h
+given_over es k (suc n) c h = rw h
 
-pub after_more : (es : List Event) (n : ℕ) (c : Cursor) → over_at es c ≡ false → cursor_after es (suc n) c ≡ cursor_after es n (step_at es c).next
-unfolding cursor_after
-after_more es n c h = rw h
+pub given_more : (es : List Event) (k n : ℕ) (c : Cursor) → over_at es c ≡ false → given_to es k (suc n) c ≡ given_to es (suc k) n (next_of es c)
+unfolding given_to
+given_more es k n c h = rw h
 
-pub after_none : (es : List Event) (c : Cursor) → cursor_after es 0 c ≡ c
-unfolding cursor_after
-after_none es c = refl
+pub given_none : (es : List Event) (k : ℕ) (c : Cursor) → given_to es k 0 c ≡ then_some (over_at es c) k
+unfolding given_to
+given_none es k c = go (over_at es c)
+  where
+    go : (b : Bool) → cond b (Some k) None ≡ then_some b k
+    go true = refl
+    go false = refl
 
 -- the slots of which i are filled, with what the stream makes of the rest: at its end, one more, and no more
 pub filled_over : (es : List Event) (c : Cursor) (i : ℕ) (zs : List Event) → over_at es c ≡ true → zs ≡ take i zs ++ stepped es c (drop i zs)
 filled_over es c i zs h = sym (ap (λ (k : List Event). take i zs ++ k) (stepped_over es c (drop i zs) h) ∙ take-append-drop i zs)
 
 pub filled_more : (es : List Event) (c : Cursor) (i : ℕ) (zs : List Event) → over_at es c ≡ false → i < length zs
-    → (let e = placed_at (event_at es c.at) (step_at es c).event in take (i + 1) (set zs i e) ++ stepped es (step_at es c).next (drop (i + 1) (set zs i e)) ≡ take i zs ++ stepped es c (drop i zs))
+    → (let e = (turn_here es c).event in take (i + 1) (set zs i e) ++ stepped es (next_of es c) (drop (i + 1) (set zs i e)) ≡ take i zs ++ stepped es c (drop i zs))
 filled_more es c i zs h l =
-    let e = placed_at (event_at es c.at) (step_at es c).event in
-    let s = (step_at es c).next in
+    let e = (turn_here es c).event in
+    let s = (next_of es c) in
     ap (λ (k : List Event). take (i + 1) (set zs i e) ++ stepped es s k) (kept_set zs zs i e refl)
     ∙ sym (take-set zs i e (stepped es s (drop (i + 1) zs)) l)
     ∙ ap (λ (k : List Event). take i zs ++ k) (sym (stepped_more es c (get_or zs i blank_event) (drop (i + 1) zs) h) ∙ ap (stepped es c) (sym (left-from zs i blank_event l)))

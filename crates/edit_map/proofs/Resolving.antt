@@ -219,7 +219,7 @@ accepted-is es h =
     (subst AreTables (sym same) p.good, p.raw ∙ ap raw_tables (sym same))
 
 -- for an accepted list, the slots get its resolved list, once those behind it are cleared; the cursor knows whether that is done, and how many records it gave
-pub resolve_stream : (es : List Event) → accepts es ≡ true → length es ≤ most → (ys : List Event) → length ys ≤ most → Resolves es (resolved_list es) ys
-resolve_stream es h fits ys small =
+pub resolve_stream : (es : List Event) → accepts es ≡ true → length es ≤ most → (ys : List Event) → Resolves es (resolved_list es) ys
+resolve_stream es h fits ys =
     let p = accepted-is es h in
-    subst (λ (l : List Event). Resolves l (resolved_list es) ys) (sym p.1) (resolves p.0 (subst (λ (l : List Event). length l ≤ most) p.1 fits) ys small)
+    subst (λ (l : List Event). Resolves l (resolved_list es) ys) (sym p.1) (resolves p.0 (subst (λ (l : List Event). length l ≤ most) p.1 fits) ys)

@@ -9,6 +9,7 @@ use lib.ListN.{drop, length, length-drop, replicate}
 use lib.Seq.{drop-drop}
 use native.Mathlib.Omega.{arith}
 use borrow.Author.Tests.{eqb-true, leb-true, leb-false}
+use Rattle.std.specs.Prelude.{Some, None}
 use Rattle.tokenizer.specs.declared.event.Event.{Event}
 use Rattle.tokenizer.specs.Slots.{event_at, slots_of, cleared, cleared_from}
 use Rattle.tokenizer.proofs.Blanks.{slots_none, cleared_all}
@@ -23,7 +24,7 @@ use Rattle.edit_map.specs.declared.resolve_step.Cursor.{Cursor}
 use Rattle.edit_map.specs.Base.{most, plus_of, placed_at, is_row_name, is_text_name}
 use Rattle.edit_map.specs.Turns.{goes_on, plain, piece_turn, row_exit_turn, end_exit_turn, turn_in, turn_of}
 use Rattle.edit_map.proofs.Stream.{first, rest, onward, ahead_of, solid_of, turn_at}
-use Rattle.edit_map.specs.Cursors.{moves, look_step, look_all, is_piece, asks, reads, next_at, is_over, over_at, resolve_step, look_of, step_at, front, stepped, cursor_after}
+use Rattle.edit_map.specs.Cursors.{moves, look_step, look_all, is_piece, asks, reads, next_at, is_over, over_at, look_of, turn_here, next_of, front, stepped, given_to}
 use Rattle.edit_map.proofs.Gives.{is_last, Gives, none, more}
 use Rattle.edit_map.specs.Tables.{Table, raw_tables, resolved_tables}
 use Rattle.edit_map.specs.Raw.{AreTables}
@@ -33,10 +34,6 @@ use Rattle.edit_order.proofs.Bools.{and_false, or_false, or_true}
 -- the look ahead at a cursor
 abbrev look_at : List Event → Cursor → Look
 look_at es c = look_of es c (event_at es c.at)
-
--- the turn that a step makes
-abbrev turn_here : List Event → Cursor → Turn
-turn_here es c = turn_of c.mode (event_at es c.at) (next_at es c) (look_at es c).ahead (look_at es c).solid
 
 -- ## The record that a turn gives stands where the record at hand stands
 
@@ -82,8 +79,8 @@ stays_in Open m this next a s = refl
 stays_in BodyLeave m this next a s = refl
 stays_in TableLeave m this next a s = refl
 
-pub placed-is : (es : List Event) (c : Cursor) → placed_at (event_at es c.at) (step_at es c).event ≡ (step_at es c).event
-unfolding resolve_step
+pub placed-is : (es : List Event) (c : Cursor) → placed_at (event_at es c.at) (turn_here es c).event ≡ (turn_here es c).event
+unfolding turn_here
 placed-is es c = stays_in c.mode.phase c.mode (event_at es c.at) (next_at es c) (look_at es c).ahead (look_at es c).solid
 
 -- ## As many slots as there were
@@ -95,7 +92,7 @@ cond_length false xs ys n p q = q
 pub as_many : (es : List Event) (c : Cursor) (ys : List Event) → length (stepped es c ys) ≡ length ys
 unfolding stepped
 as_many es c [] = refl
-as_many es c (y ∷ ys) = cond_length (over_at es c) (y ∷ ys) ((step_at es c).event ∷ stepped es (step_at es c).next ys) (suc (length ys)) refl (ap suc (as_many es (step_at es c).next ys))
+as_many es c (y ∷ ys) = cond_length (over_at es c) (y ∷ ys) ((turn_here es c).event ∷ stepped es (next_of es c) ys) (suc (length ys)) refl (ap suc (as_many es (next_of es c) ys))
 
 -- ## Reading at a place
 
@@ -319,6 +316,7 @@ module _ (es : List Event) (fits : length es ≤ most) where
       go false e = unread c.mode (event_at es c.at) _ _ a s e
 
   turn_is : (c : Cursor) → turn_here es c ≡ turn_at c.mode (drop c.at es)
+  unfolding turn_here
   turn_is c = read_is c (look_at es c).ahead (look_at es c).solid ∙ go (asks c.mode this) refl
     where
       this : Event
@@ -359,7 +357,7 @@ module _ (es : List Event) (fits : length es ≤ most) where
   -- ## The slots
 
   fill_step : (y : Event) (ys : List Event) {c : Cursor} {m : Mode} {l : List Event} → Stands c m l → is_last m l ≡ false → stepped es c (y ∷ ys) ≡ (turn_at m l).event ∷ stepped es (moves c (turn_at m l)) ys
-  unfolding stepped resolve_step
+  unfolding stepped
   fill_step y ys {c} s e = rw (over-is s ∙ e) (ap (λ (t : Turn). t.event ∷ stepped es (moves c t) ys) (turns s))
 
   -- where there are slots for all records that are to be given, these stand in them, once the slots behind are cleared
@@ -373,35 +371,25 @@ module _ (es : List Event) (fits : length es ≤ most) where
 
   -- ## The end, and the number of records given
 
-  after_one : (n : ℕ) {c : Cursor} {m : Mode} {l : List Event} → Stands c m l → is_last m l ≡ false → cursor_after es (suc n) c ≡ cursor_after es n (moves c (turn_at m l))
-  unfolding cursor_after resolve_step
-  after_one n {c} s e = rw (over-is s ∙ e) (ap (λ (t : Turn). cursor_after es n (moves c t)) (turns s))
+  -- n slots where some records are to be given, and k have come
+  counts : (k n : ℕ) {m : Mode} {l out : List Event} → Gives m l out (plain Out Part.Head) [] → {c : Cursor} → Stands c m l → given_to es k n c ≡ cond (leb (length out) n) (Some (k + length out)) None
+  unfolding given_to
+  counts k zero none s = rw (over-is s) (ap Some (omega arith))
+  counts k (suc n) none s = rw (over-is s, leb-zero (suc n)) (ap Some (omega arith))
+  counts k zero (more {out = out} e g) s = rw (over-is s ∙ e, leb-suc-zero (length out))
+  counts k (suc n) (more {m = m} {es = l} {out = out} e g) {c} s =
+      rw (over-is s ∙ e, turns s, leb-suc-suc (length out) n)
+      (counts (suc k) n g (moves_on s) ∙ ap (λ (j : ℕ). cond (leb (length out) n) (Some j) None) (omega arith))
 
-  -- n slots after the end
-  idles : (n : ℕ) {c : Cursor} → over_at es c ≡ true → cursor_after es n c ≡ c
-  unfolding cursor_after
-  idles zero o = refl
-  idles (suc n) o = rw o
-
-  -- n slots where some records are to be given
-  counts : (n : ℕ) {m : Mode} {l out : List Event} → Gives m l out (plain Out Part.Head) [] → {c : Cursor} → Stands c m l → c.given + n ≤ most
-      → (over_at es (cursor_after es n c) ≡ leb (length out) n) × (length out ≤ n → (cursor_after es n c).given ≡ c.given + length out)
-  unfolding cursor_after
-  counts n none {c} s h = rw (idles n {c = c} (over-is s)) (over-is s ∙ sym (leb-zero n), λ k. omega arith)
-  counts zero (more {out = out} e g) s h = (over-is s ∙ e ∙ sym (leb-suc-zero (length out)), λ k. absurd (omega arith))
-  counts (suc n) (more {m = m} {es = l} {out = out} e g) {c} s h =
-      let one : plus_of c.given 1 ≡ c.given + 1 = plus_fits c.given 1 (omega arith) in
-      let ih = counts n g (moves_on s) (rw one (omega arith)) in
-      rw (after_one n s e) (ih.0 ∙ sym (leb-suc-suc (length out) n), λ k. ih.1 (omega arith) ∙ rw one (omega arith))
-
--- ## The resolver's stream: for a list of raw tables, what it gives, when it is done, and how many records it gave
+-- ## The resolver's stream: for a list of raw tables, what it gives, and how many records it gave
 pub record Resolves (es out ys : List Event) : Type 0 where
   pub records : length out ≤ length ys → cleared_from (length out) (stepped es front ys) ≡ slots_of (length ys) out
-  pub done : over_at es (cursor_after es (length ys) front) ≡ leb (length out) (length ys)
-  pub count : length out ≤ length ys → (cursor_after es (length ys) front).given ≡ length out
+  pub count : given_to es 0 (length ys) front ≡ cond (leb (length out) (length ys)) (Some (length out)) None
 
-pub resolves : {ts : List Table} → AreTables ts → length (raw_tables ts) ≤ most → (ys : List Event) → length ys ≤ most → Resolves (raw_tables ts) (resolved_tables ts) ys
-resolves {ts} h fits ys small =
+pub resolves : {ts : List Table} → AreTables ts → length (raw_tables ts) ≤ most → (ys : List Event) → Resolves (raw_tables ts) (resolved_tables ts) ys
+resolves {ts} h fits ys =
     let s : Stands (raw_tables ts) fits front (plain Out Part.Head) (raw_tables ts) = record { mode = refl; place = refl } in
-    let c = counts (raw_tables ts) fits (length ys) (tables_give h) s (omega arith) in
-    record { records = fills (raw_tables ts) fits (tables_give h) s ys; done = c.0; count = λ k. c.1 k ∙ omega arith }
+    record {
+      records = fills (raw_tables ts) fits (tables_give h) s ys;
+      count = counts (raw_tables ts) fits 0 (length ys) (tables_give h) s ∙ ap (λ (j : ℕ). cond (leb (length (resolved_tables ts)) (length ys)) (Some j) None) (omega arith);
+    }

@@ -1,23 +1,15 @@
 -- The resolver as a stream: what one turn gives, by the mode and the records at hand.
 -- Assumes nothing.
 use Prim.Native.Nat.{ℕ, zero, suc}
-use mathlib.Core.Path.{◌≡◌, sym, ap, ◌∙◌}
 use mathlib.Core.List.{List, [], ◌∷◌}
 use mathlib.Core.Bool.{Bool, false, cond, ◌||◌}
 use lib.Dec.{eqb}
 use Rattle.tokenizer.specs.declared.event.Event.{Event}
 use Rattle.tokenizer.specs.Events.{GfmTableCellDivider, SpaceOrTab, blank_event}
-use Rattle.edit_map.specs.declared.resolve_turn.Phase.{Phase}
 use Rattle.edit_map.specs.declared.resolve_turn.Mode.{Mode}
 use Rattle.edit_map.specs.declared.resolve_turn.Turn.{Turn}
-use Rattle.edit_map.specs.Turns.{turn_in, turn_of}
+use Rattle.edit_map.specs.Turns.{turn_of}
 use Rattle.edit_map.specs.Base.{is_text_name}
-
--- ## One turn
-
--- the turn of a phase that is known
-pub by_phase : {t : Turn} {h : Phase} (m : Mode) (this next : Event) (ahead : ℕ) (solid : Bool) → m.phase ≡ h → t ≡ turn_in h m this next ahead solid → t ≡ turn_of m this next ahead solid
-by_phase m this next ahead solid e q = q ∙ ap (λ (k : Phase). turn_in k m this next ahead solid) (sym e)
 
 -- ## The stream over what is left of the list
 

@@ -1,5 +1,6 @@
 -- Question 10 as an automaton over the records.
-use Rattle.std.specs.Prelude.{ℕ, List, [], ◌∷◌, Bool, true, false, cond, ◌&&◌, Option, Some, None, is_none}
+use Rattle.std.specs.List.{fold}
+use Rattle.std.specs.Prelude.{ℕ, List, Bool, true, false, cond, ◌&&◌, Option, Some, None, is_none}
 use Rattle.tokenizer.specs.declared.event.Event.{Event}
 use Rattle.tokenizer.specs.Events.{GfmTableHead, LineEnding}
 use Rattle.gfm_table.specs.declared.stream.Part.{Part}
@@ -59,8 +60,7 @@ read_step r e = read_due r.due r.place r.part e
 
 -- some records
 unfoldable pub read_all : Reading → List Event → Reading
-read_all r [] = r
-read_all r (e ∷ es) = read_all (read_step r e) es
+read_all r es = fold read_step r es
 
 -- a list of raw tables may end here
 abbrev pub whole : Place → Bool

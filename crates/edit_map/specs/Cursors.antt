@@ -1,5 +1,5 @@
 -- The stream as the code runs it: by a cursor that holds a place of the list, and a look ahead where the mode asks for one.
-use Rattle.std.specs.Prelude.{ℕ, zero, suc, List, [], ◌∷◌, Bool, true, false, cond, ◌||◌, ◌&&◌, not, eqb, drop}
+use Rattle.std.specs.Prelude.{ℕ, zero, suc, List, [], ◌∷◌, Bool, true, false, cond, ◌||◌, ◌&&◌, not, eqb, drop, Option, Some, None}
 use Rattle.tokenizer.specs.declared.event.Event.{Event}
 use Rattle.tokenizer.specs.Slots.{event_at}
 use Rattle.tokenizer.specs.Events.{GfmTableCellDivider, SpaceOrTab, blank_event}
@@ -10,7 +10,6 @@ use Rattle.edit_map.specs.declared.resolve_turn.Mode.{Mode}
 use Rattle.edit_map.specs.declared.resolve_turn.Turn.{Turn}
 use Rattle.edit_map.specs.declared.resolve_look.Look.{Look}
 use Rattle.edit_map.specs.declared.resolve_step.Cursor.{Cursor}
-use Rattle.edit_map.specs.declared.resolve_step.Stepped.{Stepped}
 use Rattle.edit_map.specs.Base.{plus_of, is_text_name}
 use Rattle.edit_map.specs.Turns.{is_out, plain, turn_of}
 
@@ -55,11 +54,7 @@ reads _ = false
 
 -- the cursor after a turn
 abbrev pub moves : Cursor → Turn → Cursor
-moves c t = record { mode = t.mode; at = plus_of c.at t.by; given = plus_of c.given 1 }
-
--- one step of the stream, by the record at hand, the next one and the look ahead
-unfoldable pub resolve_step : Cursor → Event → Event → Look → Stepped
-resolve_step c this next look = let t = turn_of c.mode this next look.ahead look.solid in record { event = t.event; next = moves c t }
+moves c t = record { mode = t.mode; at = plus_of c.at t.by }
 
 -- the look ahead of a cursor, where it asks for one
 abbrev pub look_of : List Event → Cursor → Event → Look
@@ -69,9 +64,13 @@ look_of es c this = cond (asks c.mode this) (look_all (look_start this) (drop (p
 abbrev pub next_at : List Event → Cursor → Event
 next_at es c = cond (reads c.mode.phase) (event_at es (plus_of c.at 1)) blank_event
 
--- the step of a cursor in a list
-abbrev pub step_at : List Event → Cursor → Stepped
-step_at es c = resolve_step c (event_at es c.at) (next_at es c) (look_of es c (event_at es c.at))
+-- the turn at a cursor, by the record at hand, the next one and the look ahead
+unfoldable pub turn_here : List Event → Cursor → Turn
+turn_here es c = let l = look_of es c (event_at es c.at) in turn_of c.mode (event_at es c.at) (next_at es c) l.ahead l.solid
+
+-- the cursor after it
+abbrev pub next_of : List Event → Cursor → Cursor
+next_of es c = moves c (turn_here es c)
 
 -- no table follows: the stream is at its end
 abbrev pub is_over : Cursor → Event → Bool
@@ -83,14 +82,14 @@ over_at es c = is_over c (event_at es c.at)
 
 -- the stream's start
 abbrev pub front : Cursor
-front = record { mode = plain Out Part.Head; at = 0; given = 0 }
+front = record { mode = plain Out Part.Head; at = 0 }
 
--- slots filled by steps, one each, up to the end of the stream; those behind it stay
+-- slots filled by turns, one each, up to the end of the stream; those behind it stay
 unfoldable pub stepped : List Event → Cursor → List Event → List Event
 stepped es c [] = []
-stepped es c (y ∷ ys) = cond (over_at es c) (y ∷ ys) ((step_at es c).event ∷ stepped es (step_at es c).next ys)
+stepped es c (y ∷ ys) = cond (over_at es c) (y ∷ ys) ((turn_here es c).event ∷ stepped es (next_of es c) ys)
 
--- the cursor after n slots
-unfoldable pub cursor_after : List Event → ℕ → Cursor → Cursor
-cursor_after es zero c = c
-cursor_after es (suc n) c = cond (over_at es c) c (cursor_after es n (step_at es c).next)
+-- how many records the stream gives, where k have come and n slots are left; none where these are too few
+unfoldable pub given_to : List Event → ℕ → ℕ → Cursor → Option ℕ
+given_to es k zero c = cond (over_at es c) (Some k) None
+given_to es k (suc n) c = cond (over_at es c) (Some k) (given_to es (suc k) n (next_of es c))

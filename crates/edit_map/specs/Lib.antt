@@ -12,6 +12,7 @@ pub mod Accept
 pub mod TablesOf
 pub mod Turns
 pub mod Cursors
+pub mod Streaming
 pub mod Align
 pub mod AlignSteps
 pub mod Answers

@@ -2,8 +2,8 @@
 ghost use Rattle.std.specs.Prelude.{◌≡◌, ◌<◌, ◌≤◌, ◌^◌, length, drop};
 ghost use Rattle.edit_order.specs.EditSlots.{edits_of};
 ghost use Rattle.edit_order.specs.Edits.{removed};
-ghost use Rattle.edit_map.specs.EditCursor.{leading, Ready, Steps};
-ghost use Rattle.edit_map.specs.Records.{left_of, CanGive, Gives};
+ghost use Rattle.edit_map.specs.EditCursor.{leading};
+ghost use Rattle.edit_map.specs.Records.{left_of, Fits, Tells, CanGive, Gives};
 ghost use Rattle.std.specs.Iterator.{item_count};
 
 use edit_order::edit_slots;
@@ -92,8 +92,8 @@ fn gather(edits: &[usize], i: usize, at: usize) -> Group
 impl Walk<'_> {
     // A step from position `at` of the list.
     fn between(self, at: usize, edit: usize) -> Stepped
-        requires { Ready (length self.list.now) (length self.pool.now) (edits_of self.edits.now) (Cursor.Between at edit) }
-        ensures { Steps self.entry.list.now self.entry.pool.now (edits_of self.entry.edits.now) (Cursor.Between at edit) result }
+        requires { Fits self (Cursor.Between at edit) }
+        ensures { Tells self.entry (Cursor.Between at edit) result }
     {
         if edit < edit_slots::number(self.edits) {
             let e = edit_slots::get(self.edits, edit);
@@ -119,8 +119,8 @@ impl Walk<'_> {
 
     // A step over the additions that go before.
     fn back(self, edit: usize, size: usize, left: usize, off: usize, next: usize) -> Stepped
-        requires { Ready (length self.list.now) (length self.pool.now) (edits_of self.edits.now) (Cursor.Back edit size left off next) }
-        ensures { Steps self.entry.list.now self.entry.pool.now (edits_of self.entry.edits.now) (Cursor.Back edit size left off next) result }
+        requires { Fits self (Cursor.Back edit size left off next) }
+        ensures { Tells self.entry (Cursor.Back edit size left off next) result }
     {
         if left == 0 {
             return Stepped::On(Cursor::Forth {
@@ -154,8 +154,8 @@ impl Walk<'_> {
 
     // A step over the other additions.
     fn forth(self, edit: usize, left: usize, off: usize, next: usize) -> Stepped
-        requires { Ready (length self.list.now) (length self.pool.now) (edits_of self.edits.now) (Cursor.Forth edit left off next) }
-        ensures { Steps self.entry.list.now self.entry.pool.now (edits_of self.entry.edits.now) (Cursor.Forth edit left off next) result }
+        requires { Fits self (Cursor.Forth edit left off next) }
+        ensures { Tells self.entry (Cursor.Forth edit left off next) result }
     {
         if left == 0 {
             return Stepped::On(Cursor::Between { at: next, edit });
@@ -182,8 +182,8 @@ impl Walk<'_> {
 
     // One step: a record, or on to the next edit.
     fn step(self, c: Cursor) -> Stepped
-        requires { Ready (length self.list.now) (length self.pool.now) (edits_of self.edits.now) c }
-        ensures { Steps self.entry.list.now self.entry.pool.now (edits_of self.entry.edits.now) c result }
+        requires { Fits self c }
+        ensures { Tells self.entry c result }
     {
         match c {
             Cursor::Between { at, edit } => self.between(at, edit),

@@ -48,7 +48,7 @@ fn fill_alignments(list: &[Event], s: Aligning, alignments: &mut [u8])
 {
     let mut cur = s;
     for slot in alignments.iter_mut() {
-        cur = scan(list, cur, |x: Aligning| x.pauses());
+        cur = scan(list, cur, Aligning::pauses);
         *slot = cur.slot();
     }
 }
@@ -59,7 +59,7 @@ pub fn align(list: &[Event], index: usize, alignments: &mut [u8]) -> Result<usiz
         × (alignments.new ≡ align_slots list.now index (length alignments.old)) }
 {
     let first = Aligning::before(index);
-    let s = scan(list, first, |x: Aligning| x.is_settled());
+    let s = scan(list, first, Aligning::is_settled);
     let answer = told(s, alignments.len());
     match answer {
         Ok(_) => fill_alignments(list, first, alignments),

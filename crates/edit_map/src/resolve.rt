@@ -3,8 +3,9 @@ ghost use Rattle.std.specs.Prelude.{◌≡◌, length};
 ghost use Rattle.edit_map.specs.declared.resolve_accept.Place.TheVariants.{Start};
 ghost use Rattle.gfm_table.specs.declared.stream.Part.TheVariants as Part;
 ghost use Rattle.edit_map.specs.Accept.{at, read_all};
-ghost use Rattle.edit_map.specs.Cursors.{look_of, next_at, stepped, cursor_after};
+ghost use Rattle.edit_map.specs.Cursors.{look_of, next_at, over_at, stepped, given_to};
 ghost use Rattle.edit_map.specs.Answers.{resolve_answer, resolve_slots};
+ghost use Rattle.edit_map.specs.Streaming.{Streams};
 ghost use Rattle.edit_map.specs.Verdicts.{streamed, streamed_slots};
 
 use crate::resolve_accept::Reading;
@@ -16,14 +17,11 @@ use tokenizer::refusal::Refusal;
 use tokenizer::slots::{at_or_blank, clear_from};
 
 // A list read to its end.
+#[tactic(auto, unfolding(crate::specs::Accept::read_all))]
 fn accept(list: &[Event]) -> Reading
     ensures { result ≡ read_all (at Start Part.Head) list.now }
 {
-    let mut r = Reading::START;
-    for e in list {
-        r = r.step(*e);
-    }
-    r
+    list.iter().fold(Reading::START, |r, e| r.step(*e))
 }
 
 // The look ahead behind the piece at a cursor, where it asks for one.
@@ -53,27 +51,58 @@ fn next_at(list: &[Event], c: Cursor) -> Event
     }
 }
 
-// A step for each slot, up to the end of the stream.
-fn fill_results(list: &[Event], c: Cursor, results: &mut [Event]) -> Cursor
-    ensures { (result ≡ cursor_after list.now (length results.old) c)
-        × (results.new ≡ stepped list.now c results.old) }
-{
-    let mut cur = c;
-    for slot in results.iter_mut() {
-        let this = at_or_blank(list, cur.at);
-        if cur.is_over(this) {
-            return cur;
-        }
-        let s = cur.step(this, next_at(list, cur), look_ahead(list, cur, this));
-        *slot = Event {
-            kind: s.event.kind,
-            name: s.event.name,
-            link: s.event.link,
-            ..this
-        };
-        cur = s.next;
+// The result events of a list that are still to come.
+#[derive(Clone, Copy)]
+pub struct Stream<'a> {
+    pub list: &'a [Event],
+    pub cursor: Cursor,
+}
+
+impl Stream<'_> {
+    // Whether no event is to come.
+    fn is_over(&self) -> bool
+        ensures { result ≡ over_at self.now.list.now self.now.cursor }
+    {
+        self.cursor.is_over(at_or_blank(self.list, self.cursor.at))
     }
-    cur
+
+    // The event of the next turn, which stands where the record at hand stands. It is no `Iterator`: of a list that is not accepted the
+    // events may never end, and a loop that calls one has to be proved to end.
+    fn next(&mut self) -> Option<Event>
+        ensures { Streams self.old result self.new }
+    {
+        let c = self.cursor;
+        let this = at_or_blank(self.list, c.at);
+        if c.is_over(this) {
+            return None;
+        }
+        let look = look_ahead(self.list, c, this);
+        let t = c.mode.turn(this, next_at(self.list, c), look);
+        self.cursor = c.after(t);
+        Some(Event {
+            kind: t.event.kind,
+            name: t.event.name,
+            link: t.event.link,
+            ..this
+        })
+    }
+}
+
+// An event for each slot, up to the end of the stream: how many there are, if all have slots.
+fn fill(stream: Stream, results: &mut [Event]) -> Option<usize>
+    ensures { (result ≡ given_to stream.entry.list.now 0 (length results.old) stream.entry.cursor)
+        × (results.new ≡ stepped stream.entry.list.now stream.entry.cursor results.old) }
+{
+    let mut stream = stream;
+    for (i, slot) in results.iter_mut().enumerate() {
+        match stream.next() {
+            Some(e) => {
+                *slot = e;
+            }
+            None => return Some(i),
+        }
+    }
+    stream.is_over().then_some(results.len())
 }
 
 // The result events in the slots, and their number, where there are slots for all.
@@ -85,12 +114,11 @@ fn resolve_into(list: &[Event], results: &mut [Event]) -> Result<usize, Refusal>
     if !accept(list).is_accepted() {
         return Err(Refusal::NoRawTables);
     }
-    let last = fill_results(list, Cursor::FRONT, results);
-    if last.is_over(at_or_blank(list, last.at)) {
-        Ok(last.given)
-    } else {
-        Err(Refusal::TooFewResultSlots)
-    }
+    let stream = Stream {
+        list,
+        cursor: Cursor::FRONT,
+    };
+    fill(stream, results).ok_or(Refusal::TooFewResultSlots)
 }
 
 // The result events of a list that is made of raw tables.

@@ -31,7 +31,7 @@ pub struct Reading {
     pub due: Option<u8>,
 }
 
-// A record that enters the name n, its link a known code.
+// A record that enters the name n, its link a known code. This and the next are two as `is_entry` and `is_exit` are: one is no plainer.
 fn enters(n: u8, e: Event) -> bool
     ensures { result ≡ enters n e }
 {

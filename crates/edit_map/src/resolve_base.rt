@@ -5,7 +5,7 @@ ghost use Rattle.edit_map.specs.Base.{is_row_name, is_text_name};
 
 use tokenizer::event::{Event, Name};
 
-// Whether a record enters the name n.
+// Whether a record enters the name n. This and the next are two, since their kind as a parameter would make each use longer, not plainer.
 pub fn is_entry(n: u8, e: Event) -> bool
     ensures { result ≡ Align.is_entry n e }
 {

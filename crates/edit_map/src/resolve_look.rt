@@ -32,7 +32,7 @@ impl Look {
     }
 
     // One more record of a look ahead that is on; n is the count with it.
-    fn on(self, n: usize, e: Event) -> Self
+    fn further(self, n: usize, e: Event) -> Self
         ensures { result ≡ look_on n self e }
     {
         if e.name == Name::SpaceOrTab as u8 {
@@ -64,7 +64,7 @@ impl Look {
         ensures { result ≡ look_step self e }
     {
         if self.on {
-            self.on(self.count.saturating_add(1), e)
+            self.further(self.count.saturating_add(1), e)
         } else {
             self
         }

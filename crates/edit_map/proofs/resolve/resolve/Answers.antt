@@ -13,6 +13,5 @@ returns c =
     let es = c.args.list.now in
     let ys = c.args.results.now in
     let f : length es < 2 ^ 64 = omega arith in
-    let g : length ys < 2 ^ 64 = omega arith in
     let e = c.resolve_into-answer.ensures in
-    (e.0 ∙ streamed-answer es ys (in_most f) (in_most g), rw (c.clear_from.ensures, c.unwrap_or-keep.ensures, e.0, e.1) (streamed_slots_lem es ys (in_most f) (in_most g)))
+    (e.0 ∙ streamed-answer es ys (in_most f), rw (c.clear_from.ensures, c.unwrap_or-keep.ensures, e.0, e.1) (streamed_slots_lem es ys (in_most f)))
