@@ -1,5 +1,5 @@
 // What `head` and `row` answer, before a slot is written.
-ghost use Rattle.std.specs.Prelude.{◌≡◌, ◌≤◌, ◌+◌, ◌*◌, length};
+ghost use Rattle.std.specs.Prelude.{◌≡◌, ◌≤◌, ◌+◌, ◌*◌, [], ◌∷◌, length};
 ghost use Rattle.tokenizer.specs.Bytes.{kind_in};
 ghost use Rattle.tokenizer.specs.Moves.{rest_of, Inside};
 ghost use Rattle.tokenizer.specs.Refusals.{answered};
@@ -28,6 +28,24 @@ pub struct HeadCounts {
 pub struct RowCounts {
     pub events: usize,
     pub end: usize,
+}
+
+impl From<HeadCounts> for [usize; 3] {
+    ghost from_gives = { λ c out. out ≡ c.events ∷ c.end ∷ c.cells ∷ [] };
+
+    // Events, end and cells.
+    fn from(c: HeadCounts) -> [usize; 3] {
+        [c.events, c.end, c.cells]
+    }
+}
+
+impl From<RowCounts> for [usize; 2] {
+    ghost from_gives = { λ c out. out ≡ c.events ∷ c.end ∷ [] };
+
+    // Events and end.
+    fn from(c: RowCounts) -> [usize; 2] {
+        [c.events, c.end]
+    }
 }
 
 // What is answered, and where the events come from.

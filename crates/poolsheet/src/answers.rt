@@ -22,7 +22,7 @@ pub fn head_counts(a: Result<HeadCounts, Refusal>) -> [usize; 3]
     ensures { result ≡ counts_of_head a }
 {
     match a {
-        Ok(c) => [c.events, c.end, c.cells],
+        Ok(c) => c.into(),
         Err(_) => [0, 0, 0],
     }
 }
@@ -32,7 +32,7 @@ pub fn row_counts(a: Result<RowCounts, Refusal>) -> [usize; 2]
     ensures { result ≡ counts_of_row a }
 {
     match a {
-        Ok(c) => [c.events, c.end],
+        Ok(c) => c.into(),
         Err(_) => [0, 0],
     }
 }
@@ -49,7 +49,7 @@ pub fn sheet_counts(a: Result<SheetCounts, Refusal>) -> [usize; 4]
     ensures { result ≡ counts_of_sheet a }
 {
     match a {
-        Ok(c) => [c.tables, c.events, c.results, c.alignments],
+        Ok(c) => c.into(),
         Err(_) => [0, 0, 0, 0],
     }
 }

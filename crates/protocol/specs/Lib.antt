@@ -1,5 +1,4 @@
 -- What the contracts of the protocol cite.
-pub mod Answers
 pub mod Counts
 pub mod Kept
 pub mod Records

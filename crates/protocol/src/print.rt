@@ -5,6 +5,7 @@ ghost use Rattle.protocol.specs.Records.{is_blank};
 use std::io;
 use std::io::Write;
 use tokenizer::event::Event;
+use tokenizer::refusal::Refusal;
 
 // What a slot may hold: blank ones at the end of a list are not written.
 pub trait Slot: Copy {
@@ -87,13 +88,13 @@ pub fn numbers(out: &mut impl Write, list: &[usize]) -> io::Result<()> {
 // An answer's number and counts, zeros where it is refused.
 pub fn number<const N: usize>(
     out: &mut impl Write,
-    answer: Result<[usize; N], u8>,
+    answer: Result<impl Into<[usize; N]>, Refusal>,
 ) -> io::Result<()> {
-    let (refusal, counts) = match answer {
-        Ok(counts) => (0, counts),
-        Err(refusal) => (refusal, [0; N]),
+    let (number, counts) = match answer {
+        Ok(counts) => (0, counts.into()),
+        Err(refusal) => (refusal.number(), [0; N]),
     };
-    write!(out, "{refusal}")?;
+    write!(out, "{number}")?;
     for n in &counts {
         write!(out, " {n}")?;
     }
@@ -103,7 +104,7 @@ pub fn number<const N: usize>(
 // An answer, and the slots that were lent.
 pub fn answer<T: Slot, const N: usize>(
     out: &mut impl Write,
-    answer: Result<[usize; N], u8>,
+    answer: Result<impl Into<[usize; N]>, Refusal>,
     list: &[T],
 ) -> io::Result<()> {
     number(out, answer)?;

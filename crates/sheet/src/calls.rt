@@ -1,4 +1,5 @@
 // What `sheet` answers.
+ghost use Rattle.std.specs.Prelude.{◌≡◌, [], ◌∷◌};
 
 // Of a sheet that is accepted: the numbers of its tables, raw events, result events and alignments.
 #[derive(Clone, Copy, PartialEq, Eq)]
@@ -7,6 +8,15 @@ pub struct SheetCounts {
     pub events: usize,
     pub results: usize,
     pub alignments: usize,
+}
+
+impl From<SheetCounts> for [usize; 4] {
+    ghost from_gives = { λ c out. out ≡ c.tables ∷ c.events ∷ c.results ∷ c.alignments ∷ [] };
+
+    // Tables, raw events, result events and alignments.
+    fn from(c: SheetCounts) -> [usize; 4] {
+        [c.tables, c.events, c.results, c.alignments]
+    }
 }
 
 impl SheetCounts {
