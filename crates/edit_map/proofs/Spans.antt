@@ -17,7 +17,7 @@ use Rattle.tokenizer.specs.Lines.{line_body, is_empty, indent, unindented, blank
 use Rattle.tokenizer.specs.Moves.{ahead_of, Inside}
 use Rattle.tokenizer.specs.Points.{column_after, column_past, past}
 use Rattle.tokenizer.specs.Events.{Data, GfmTableCellDivider, GfmTableDelimiterFiller, GfmTableDelimiterMarker, SpaceOrTab, enter, leave}
-use Rattle.tokenizer.proofs.Ahead.{Front, goes, past-append, past-none, rest-past, inside_past, over_inside}
+use Rattle.tokenizer.proofs.Ahead.{Front, goes, past-append, past-none, rest-past, inside_past}
 use Rattle.tokenizer.proofs.Runs.{space_on, space_split}
 use Rattle.gfm_table.specs.declared.rows.Stop.{Stop}
 use Rattle.gfm_table.specs.Rows.{Piece, Passed, joins, on_pieces, row_name, odd_after, row_pieces, delimiter_name, delimiter_pieces, passed}
@@ -209,10 +209,6 @@ module _ {kind : ℕ → ℕ} (ok : Reads kind) (s : List ℕ) (i c : ℕ) (f : 
   pub space_column : column_past c (indent kind (line_from s i)) ≡ column_past (column_after c (get_or s i 0)) (indent kind (line_from s (i + 1)))
   unfolding column_past
   space_column = ap (column_past c) (ap (indent kind) f.line ∙ space_on kind _ _ f.is)
-
-  pub space_narrow : length s ≤ 65536 → c ≤ 4 * i + 1 → column_after c (get_or s i 0) ≤ 4 * (i + 1) + 1
-  unfolding column_past
-  space_narrow h n = let l = f.below in (over_inside s (point_at i c) 1 f (inside-at h (omega arith) n)).narrow
 
 -- ## One text more
 

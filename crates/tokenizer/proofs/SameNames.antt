@@ -14,7 +14,7 @@ use Rattle.tokenizer.specs.declared.event.Name.TheVariants.{SpaceOrTab, LineEndi
 use Rattle.tokenizer.specs.Events.{number}
 
 -- a name's number is one more than its place in the declaration
-tagged : (n : Name) → tag_of the_type n + 1 ≡ number n
+pub tagged : (n : Name) → tag_of the_type n + 1 ≡ number n
 tagged SpaceOrTab = refl
 tagged LineEnding = refl
 tagged Data = refl
