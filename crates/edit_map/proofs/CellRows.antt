@@ -43,14 +43,9 @@ use Rattle.edit_map.proofs.Cells.{enters, row_ends, marks-end}
 use Rattle.edit_map.proofs.Spans.{text_ahead_lem, space_next, Goes, goes_none, goes_ends, next}
 use Rattle.edit_map.proofs.CellTurns.{ReachesAs, first-named, is_data, row_at, marks-at}
 use Rattle.edit_order.proofs.Bools.{either, and_false, and_true}
-use Rattle.edit_map.proofs.RawRows.{Named, named, rows_named, delimiters_named}
+use Rattle.edit_map.proofs.RawRows.{Named, rows_named, delimiters_named}
 
 -- ## The slots of a step
-
--- the place behind a slot stays small
-pub past-below : (b : Bool) (i : ℕ) {r n : ℕ} → r ≡ past_if b i → i < n → r < n + 1
-past-below true i e h = omega (arith, e, h)
-past-below false i e h = omega (arith, e, h)
 
 -- as many slots as memory has are below the place past all of them
 pub room-few : (n : ℕ) → n < 2 ^ 64 → n ≤ nowhere
@@ -205,13 +200,13 @@ module _ {kind : ℕ → ℕ} (ok : Reads kind) where
       go false e = record { stop = record { at = from; column = column }; reaches = (λ d. absurd (eqb-false n Data e d), λ d. refl) }
 
   -- the end of a piece lies in the sheet
-  pub next_fits : (s : List ℕ) (part : Part) (i c : ℕ) (x : Placed) → (length s ≤ 65536) × (i ≤ length s) × (c ≤ 4 * i + 1) → Some x ≡ next_at i c (pieces_of kind part (line_body (drop i s))) → (x.end ≤ length s) × (x.column ≤ 4 * x.end + 1)
-  next_fits s part i c x h e = go (next-piece ok s (point_in 0 i c) (record { short = h.0; within = h.1; narrow = h.2; lined = omega arith; flat = refl }) part)
+  pub next_fits : (s : List ℕ) (part : Part) (i c : ℕ) (x : Placed) {r : Option Placed} → (length s ≤ 65536) × (i ≤ length s) × (c ≤ 4 * i + 1) → r ≡ Some x → r ≡ next_at i c (pieces_of kind part (line_body (drop i s))) → (x.end ≤ length s) × (x.column ≤ 4 * x.end + 1)
+  next_fits s part i c x h a b = go (next-piece ok s (point_in 0 i c) (record { short = h.0; within = h.1; narrow = h.2; lined = omega arith; flat = refl }) part)
     where
       go : (Next kind) s part (point_in 0 i c) → (x.end ≤ length s) × (x.column ≤ 4 * x.end + 1)
-      go (none f) = let z : ◌≡◌ {A = Option Placed} (Some x) None = e ∙ ap (next_at i c) (ap (pieces_of kind part) f ∙ no_pieces ok part) in cc
+      go (none f) = let z : ◌≡◌ {A = Option Placed} (Some x) None = sym a ∙ b ∙ ap (next_at i c) (ap (pieces_of kind part) f ∙ no_pieces ok part) in cc
       go (some {n} {u} f) =
-          let z : ◌≡◌ {A = Option Placed} (Some x) (Some (placed (name_of n) i c u)) = e ∙ ap (next_at i c) f.pieces in
+          let z : ◌≡◌ {A = Option Placed} (Some x) (Some (placed (name_of n) i c u)) = sym a ∙ b ∙ ap (next_at i c) f.pieces in
           let y : x ≡ placed (name_of n) i c u = cc in
           rw y (f.inside.within, f.inside.narrow)
 
@@ -274,9 +269,9 @@ not_data n =
 
 module _ {kind : ℕ → ℕ} (ok : Reads kind) where
   -- the step over the next piece
-  pub step_by : (s : List ℕ) (part : Part) (w : Within) (y : Option Placed) → y ≡ next_at w.at w.column (pieces_of kind part (line_body (drop w.at s))) → step_over kind s w y ≡ step_of kind s part w
+  pub step_by : (s : List ℕ) (part : Part) (w : Within) {r y : Option Placed} → r ≡ y → r ≡ next_at w.at w.column (pieces_of kind part (line_body (drop w.at s))) → step_over kind s w y ≡ step_of kind s part w
   unfolding step_of
-  step_by s part w y e = ap (step_over kind s w) e
+  step_by s part w a b = ap (step_over kind s w) (sym a ∙ b)
 
   -- the step over a piece that stands first
   step_is : (s : List ℕ) (part : Part) (w : Within) {n : ℕ} {u : List ℕ} {ps : List Piece} → pieces_of kind part (line_body (drop w.at s)) ≡ record { name = n; text = u } ∷ ps
@@ -294,7 +289,7 @@ module _ {kind : ℕ → ℕ} (ok : Reads kind) where
   slot_from w None = w.slot
   slot_from w (Some x) = x.slot
 
-  pub step_slot : (s : List ℕ) (part : Part) (w : Within) (x : Step) → step_of kind s part w ≡ Some x → x.slot ≡ w.slot
+  step_slot : (s : List ℕ) (part : Part) (w : Within) (x : Step) → step_of kind s part w ≡ Some x → x.slot ≡ w.slot
   unfolding step_of
   step_slot s part w x e = sym (ap (slot_from w) e) ∙ same (next_at w.at w.column (pieces_of kind part (line_body (drop w.at s))))
     where
@@ -324,6 +319,10 @@ module _ {kind : ℕ → ℕ} (ok : Reads kind) where
     -- a place in the sheet, and a slot that does not grow faster than the bytes
     abbrev pub Good : Within → Type 0
     Good w = Inside s (point_at w) × (w.slot ≤ 4294967297 + 6 * w.at)
+
+    -- the first slot of a step is small
+    pub slot_few : (w : Within) (x : Step) → Good w → step_of kind s part w ≡ Some x → x.slot < 1000000000000
+    slot_few w x h e = let i = h.0 in omega (arith, step_slot s part w x e, h.1, i.within, i.short)
 
     -- the step x goes on from w
     record Moves (w : Within) (x : Step) : Type 0 where

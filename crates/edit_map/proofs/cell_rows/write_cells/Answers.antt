@@ -1,4 +1,4 @@
--- `cell_rows::write_text_cells` meets its contract.
+-- `cell_rows::write_cells` meets its contract.
 -- Assumes nothing.
 use mathlib.Core.Path.{sym, ap, ◌∙◌}
 use mathlib.Core.List.{List}
@@ -7,73 +7,51 @@ use native.Mathlib.Omega.{arith}
 use lib.ListN.{length}
 use Rattle.tokenizer.specs.declared.event.Event.{Event}
 use Rattle.gfm_table.specs.declared.rows.Reached.{Reached}
-use Rattle.gfm_table.specs.declared.stream.Part.TheVariants.{Body}
-use Rattle.edit_map.proofs.CellRows.{room-few, step_slot, goes, stops, opening}
-use Rattle.edit_map.proofs.cell_rows.write_text_cells.Goals as goal
-use Rattle.edit_map.proofs.cell_rows.write_text_cells.Goals.{After-text_step-x}
+use Rattle.edit_map.proofs.CellRows.{room-few, slot_few, goes, stops, opening}
+use Rattle.edit_map.proofs.cell_rows.write_cells.Goals as goal
 
-pub loop-w-init : goal.loop-w-init
-loop-w-init c = λ ok.
-    rw (c.within_first-w.ensures, c.put.ensures, c.cell_first.ensures, c.text_part-part.ensures) (
+pub loop-x-init : goal.loop-x-init
+loop-x-init g c =
+    let t = c.args.text.now in
+    let from = c.args.from in
+    rw (c.first-w.ensures, c.put.ensures, c.enter.ensures, c.cell_name.ensures, c.point.ensures, c.part-part.ensures) (
       (c.requires.0, omega (arith, c.requires.1)),
-      opening ok c.args.s.now Body c.args.line c.args.from c.args.to c.args.slots.now c.requires.0,
+      opening t.passes.reads t.bytes.now g.R.RowKind.part from.line from.at c.args.to c.args.slots.now c.requires.0,
     )
 
-pub text_step-x-requires : goal.text_step-x-requires
-text_step-x-requires c =
-    let h = c.loop-w.invariant c.requires.2.reads in
-    (h.0.0.short, h.0.0.within, h.0.0.narrow, c.requires.2)
+pub slots-requires : goal.slots-requires
+slots-requires g c =
+    let t = c.args.text.now in
+    let l = c.loop-x in
+    slot_few t.passes.reads t.bytes.now g.R.RowKind.part c.args.from.line l.w c.in-Some.x l.invariant.0 (sym c.in-Some.ensures)
 
--- the first slot of the step
-few : (c : After-text_step-x) → c.text_step-x.result.slot < 1000000000000
-few c =
-    let ok = c.requires.2.reads in
-    let w = c.loop-w.w in
-    let h = (c.loop-w.invariant ok).0 in
-    rw c.text_step-x.ensures (omega (arith, step_slot ok c.args.s.now Body w, h.1, h.0.within, h.0.short))
+pub behind-w-requires : goal.behind-w-requires
+behind-w-requires g c =
+    let t = c.args.text.now in
+    let l = c.loop-x in
+    slot_few t.passes.reads t.bytes.now g.R.RowKind.part c.args.from.line l.w c.in-Some.x l.invariant.0 (sym c.in-Some.ensures)
 
-pub slots_of-k-requires : goal.slots_of-k-requires
-slots_of-k-requires c = few c
+pub loop-x-smaller : goal.loop-x-smaller
+loop-x-smaller g c =
+    let t = c.args.text.now in
+    let l = c.loop-x in
+    let turn = goes t.passes.reads t.bytes.now g.R.RowKind.part c.args.from.line l.w c.in-Some.x l.invariant.0 (sym c.in-Some.ensures) in
+    rw c.behind-w.ensures (omega (arith, turn.long, turn.good.0.within))
 
-pub within_after-w-requires : goal.within_after-w-requires
-within_after-w-requires c =
-    let ok = c.requires.2.reads in
-    let w = c.loop-w.w in
-    let h = (c.loop-w.invariant ok).0 in
-    rw c.text_step-x.ensures (omega (arith, step_slot ok c.args.s.now Body w, h.1, h.0.within, h.0.short))
-
-pub cells_reached-requires : goal.cells_reached-requires
-cells_reached-requires c =
-    let h = (c.loop-w.invariant c.requires.2.reads).0 in
-    omega (arith, h.1, h.0.within, h.0.short)
-
-pub loop-w-smaller : goal.loop-w-smaller
-loop-w-smaller c =
-    let ok = c.requires.2.reads in
-    let l = c.loop-w in
-    let h = l.invariant ok in
-    let there = c.row_stop-end.ensures ∙ ap (λ (w : Reached × List Event). w.0.at) h.1 in
-    let turn = goes ok c.args.s.now Body c.args.line l.w c.row_stop-end.result h.0 there c.loop-w-test.true in
-    rw (c.within_after-w.ensures, c.text_step-x.ensures) (omega (arith, turn.long, turn.good.0.within))
-
-pub loop-w-preserved : goal.loop-w-preserved
-loop-w-preserved c = λ ok.
-    let l = c.loop-w in
-    let h = l.invariant ok in
-    let there = c.row_stop-end.ensures ∙ ap (λ (w : Reached × List Event). w.0.at) h.1 in
-    let turn = goes ok c.args.s.now Body c.args.line l.w c.row_stop-end.result h.0 there c.loop-w-test.true in
+pub loop-x-preserved : goal.loop-x-preserved
+loop-x-preserved g c =
+    let t = c.args.text.now in
+    let l = c.loop-x in
+    let turn = goes t.passes.reads t.bytes.now g.R.RowKind.part c.args.from.line l.w c.in-Some.x l.invariant.0 (sym c.in-Some.ensures) in
     let fewer : length l.slots < 2 ^ 64 = omega (arith, l.auto.slots) in
-    rw (c.within_after-w.ensures, c.put_step.ensures, c.slots_of-k.ensures, c.text_step-x.ensures, c.text_part-part.ensures)
-    (turn.good, h.1 ∙ turn.more l.slots (room-few _ fewer))
+    rw (c.behind-w.ensures, c.put_step.ensures, c.slots.ensures, c.part-part.ensures) (turn.good, l.invariant.1 ∙ turn.more l.slots (room-few _ fewer))
 
 pub returns : goal.returns
-returns c =
-    let ok = c.requires.2.reads in
-    let l = c.loop-w in
-    let h = l.invariant ok in
-    let there = c.row_stop-end.ensures ∙ ap (λ (w : Reached × List Event). w.0.at) h.1 in
-    let m = h.1 ∙ stops ok c.args.s.now Body c.args.line l.w c.row_stop-end.result l.slots h.0 there c.loop-w-test.false in
-    rw (c.cells_reached.ensures, c.put-2.ensures, c.cell_closed.ensures, c.text_part-part.ensures) (
+returns g c =
+    let t = c.args.text.now in
+    let l = c.loop-x in
+    let m = l.invariant.1 ∙ stops t.passes.reads t.bytes.now g.R.RowKind.part c.args.from.line l.w l.slots l.invariant.0 (sym c.in_default.ensures) in
+    rw (c.reached.ensures, c.put-2.ensures, c.exit.ensures, c.cell_name-2.ensures, c.part-part.ensures) (
       sym (ap (λ (w : Reached × List Event). w.0) m),
       sym (ap (λ (w : Reached × List Event). w.1) m),
     )

@@ -1,16 +1,18 @@
 -- What the rest of the row makes of the slots, from where it is read, is what the whole row makes of them as they came.
 use Rattle.std.proofs.Common.{◌≡◌, ◌-◌, length}
-use Rattle.tokenizer.specs.Bytes.{kind_in, Reads}
-use Rattle.gfm_table.specs.declared.stream.Part.TheVariants.{Body}
-use Rattle.gfm_table.specs.Places.{point_in}
+use Rattle.tokenizer.specs.Bytes.{kind_in}
+use Rattle.tokenizer.specs.Points.{start_of}
 use Rattle.edit_map.specs.CellRows.{cells_end, cells_wrote}
 use Rattle.edit_map.proofs.CellRows.{makes, Good}
-use Rattle.edit_map.proofs.cell_rows.write_text_cells.Given as goal
+use Rattle.edit_map.proofs.cell_rows.write_cells.Given as goal
 
-abbrev pub invariant-loop-w : goal.invariant-loop-w
-invariant-loop-w l =
-    (ok : Reads (kind_in l.kinds)) → Good ok l.s Body l.line l.w
-    × ((cells_end (kind_in l.kinds) l.s Body (point_in l.line l.from 1) l.to, cells_wrote (kind_in l.kinds) l.s Body (point_in l.line l.from 1) l.to l.fn.slots) ≡ makes ok l.s Body l.line l.w l.slots)
+abbrev pub invariant-loop-x : goal.invariant-loop-x
+invariant-loop-x g l =
+    let t = l.text in
+    let kind = kind_in t.kinds.now in
+    let part = g.R.RowKind.part in
+    Good t.passes.reads t.bytes.now part l.from.line l.w
+    × ((cells_end kind t.bytes.now part (start_of l.fn.from) l.to, cells_wrote kind t.bytes.now part (start_of l.fn.from) l.to l.fn.slots) ≡ makes t.passes.reads t.bytes.now part l.from.line l.w l.slots)
 
-abbrev pub decreases-loop-w : goal.decreases-loop-w
-decreases-loop-w l = length l.s - l.w.at
+abbrev pub decreases-loop-x : goal.decreases-loop-x
+decreases-loop-x g l = length l.text.bytes.now - l.w.at
