@@ -8,19 +8,22 @@ use lib.Dec.{eqb}
 use lib.ListN.{length, drop, set, length-set, length-append}
 use native.Mathlib.Omega.{arith}
 use borrow.Author.Tests.{eqb-true, eqb-false}
+use Rattle.std.specs.Prelude.{Option, Some, None}
 use Rattle.tokenizer.specs.declared.event.Point.{Point}
 use Rattle.tokenizer.specs.declared.event.Event.{Event}
+use Rattle.tokenizer.specs.declared.event.Name.{Name}
 use Rattle.tokenizer.specs.Bytes.{Reads}
 use Rattle.tokenizer.specs.Lines.{line_body}
 use Rattle.tokenizer.specs.Moves.{ahead_of, rest_of, Inside}
 use Rattle.tokenizer.specs.Points.{column_past, past}
 use Rattle.tokenizer.specs.Slots.{nowhere, slot_if, past_if, event_if, wrote}
-use Rattle.tokenizer.specs.Events.{Data, GfmTableCell, GfmTableDelimiterCell, SpaceOrTab, enter, leave}
+use Rattle.tokenizer.specs.Events.{Data, GfmTableCell, GfmTableDelimiterCell, SpaceOrTab, number, named as name_of, enter, leave}
 use Rattle.tokenizer.proofs.Ahead.{goes as front, past-append, past-none, inside_past}
 use Rattle.tokenizer.proofs.Writing.{wrote_one, wrote-more, wrote-append, wrote-if, past-if}
 use Rattle.gfm_table.specs.declared.stream.Part.{Part}
 use Rattle.gfm_table.specs.declared.stream.Part.TheVariants.{Head, Delimiter, Body}
 use Rattle.gfm_table.specs.declared.rows.Placed.{Placed}
+use Rattle.gfm_table.specs.declared.rows.Stop.{Stop}
 use Rattle.gfm_table.specs.declared.rows.Reached.{Reached}
 use Rattle.gfm_table.specs.Rows.{Piece, Passed, passed}
 use Rattle.gfm_table.specs.Machine.{data_run}
@@ -28,27 +31,21 @@ use Rattle.gfm_table.specs.Stream.{pieces_of}
 use Rattle.gfm_table.specs.Places.{point_in, placed, next_at}
 use Rattle.gfm_table.proofs.Passing.{line_from}
 use Rattle.gfm_table.proofs.Coming.{no_pieces, Piecing, Next, none, some, next-piece}
-use Rattle.edit_map.specs.declared.cell_spans.Stop.{Stop}
 use Rattle.edit_map.specs.declared.cell_steps.Within.{Within}
 use Rattle.edit_map.specs.declared.cell_steps.Step.{Step}
 use Rattle.edit_map.specs.Base.{is_text_name}
 use Rattle.edit_map.specs.Raw.{row_piece, delimiter_piece}
 use Rattle.edit_map.specs.Tables.{cells, row_inner, delimiter_inner, first_point, cell_events}
 use Rattle.edit_map.specs.Cells.{tail, tail_marks, cell_opened, row_turn, mark_turn}
-use Rattle.edit_map.specs.Spans.{opens_at, text_next, Reaches, ReachesAs}
-use Rattle.edit_map.specs.CellRows.{cell_of, value_of, inside_of, text_left, reach_of, step_from, step_of, first_within, behind, start_of, stop_of, slots_in, entry_in, step_put, cells_at, cells_end, cells_wrote}
+use Rattle.edit_map.specs.Spans.{opens_at, text_next, Reaches}
+use Rattle.edit_map.specs.CellRows.{cell_of, value_of, inside_of, text_left, reach_of, step_from, step_over, step_of, first_within, behind, start_of, stop_of, slots_in, entry_in, step_put, cells_at, cells_end, cells_wrote}
 use Rattle.edit_map.proofs.Cells.{enters, row_ends, marks-end}
 use Rattle.edit_map.proofs.Spans.{text_ahead_lem, space_next, Goes, goes_none, goes_ends, next}
-use Rattle.edit_map.proofs.CellTurns.{first-named, is_data, row_at, marks-at}
+use Rattle.edit_map.proofs.CellTurns.{ReachesAs, first-named, is_data, row_at, marks-at}
 use Rattle.edit_order.proofs.Bools.{either, and_false, and_true}
-use Rattle.edit_map.proofs.RawRows.{Named, named, rows_named, delimiters_named}
+use Rattle.edit_map.proofs.RawRows.{Named, rows_named, delimiters_named}
 
 -- ## The slots of a step
-
--- the place behind a slot stays small
-pub past-below : (b : Bool) (i : ℕ) {r n : ℕ} → r ≡ past_if b i → i < n → r < n + 1
-past-below true i e h = omega (arith, e, h)
-past-below false i e h = omega (arith, e, h)
 
 -- as many slots as memory has are below the place past all of them
 pub room-few : (n : ℕ) → n < 2 ^ 64 → n ≤ nowhere
@@ -64,7 +61,7 @@ set-few zs i e h = rw (length-set zs i e) h
 -- the events of a step in the line l
 abbrev pub step_events : Part → ℕ → Step → List Event
 step_events part l x =
-    cell_opened (cell_of part) x.opens (start_of l x) ++ (event_if x.enters (enter (value_of part) (start_of l x)) ++ (entry_in l x ∷ leave x.name (stop_of l x) ∷ event_if x.leaves (leave (value_of part) (stop_of l x))))
+    cell_opened (cell_of part) x.opens (start_of l x) ++ (event_if x.enters (enter (value_of part) (start_of l x)) ++ (entry_in l x ∷ leave (number x.name) (stop_of l x) ∷ event_if x.leaves (leave (value_of part) (stop_of l x))))
 
 module _ (o t l : Bool) (k : ℕ) (a b c d e f : Event) where
   -- the slot of the piece's entry
@@ -115,7 +112,7 @@ at_most false false false k = omega arith
 
 module _ (kind : ℕ → ℕ) where
   -- a text that has reached a place ends somewhere
-  record Some (s : List ℕ) (from column : ℕ) : Type 0 where
+  record Ends (s : List ℕ) (from column : ℕ) : Type 0 where
     stop : Stop
     reaches : (Reaches kind) s from column stop
 
@@ -132,11 +129,11 @@ module _ {kind : ℕ → ℕ} (ok : Reads kind) where
         let n : k ≡ 2 → ⊥ = λ z. true≢false (sym e ∙ text_ahead_lem ok s i (spaced i) refl ∙ rw z) in
         (front ok s (spaced i) k refl n).below
 
-    reaching : (n i c : ℕ) → length s - i < n → c ≤ 4 * i + 1 → Goes kind s from column i c → Some kind s from column
+    reaching : (n i c : ℕ) → length s - i < n → c ≤ 4 * i + 1 → Goes kind s from column i c → Ends kind s from column
     reaching zero i c h m g = absurd (omega (arith, h))
     reaching (suc n) i c h m g = go (text_next kind (line_from s i)) refl (reaching n)
       where
-        go : (b : Bool) → text_next kind (line_from s i) ≡ b → ((j d : ℕ) → length s - j < n → d ≤ 4 * j + 1 → Goes kind s from column j d → Some kind s from column) → Some kind s from column
+        go : (b : Bool) → text_next kind (line_from s i) ≡ b → ((j d : ℕ) → length s - j < n → d ≤ 4 * j + 1 → Goes kind s from column j d → Ends kind s from column) → Ends kind s from column
         go true e ih =
             let t = spaced i in
             let tc = column_past c (space_next ok (line_from s i)) in
@@ -146,7 +143,7 @@ module _ {kind : ℕ → ℕ} (ok : Reads kind) where
         go false e ih = record { stop = record { at = i; column = c }; reaches = goes_ends ok g e }
 
   -- every one does
-  ends_somewhere : (s : List ℕ) (from column : ℕ) → length s ≤ 65536 → column ≤ 4 * from + 1 → Some kind s from column
+  ends_somewhere : (s : List ℕ) (from column : ℕ) → length s ≤ 65536 → column ≤ 4 * from + 1 → Ends kind s from column
   ends_somewhere s from column h n = reaching s h from column (suc (length s - from)) from column (omega arith) n (goes_none ok s from column)
 
   module _ (s : List ℕ) (x : Placed) (r : Stop) (h : (Reaches kind) s x.end x.column r) where
@@ -163,12 +160,12 @@ module _ {kind : ℕ → ℕ} (ok : Reads kind) where
         λ i. record { name = x.name; end = e i; column = c i }
 
   -- a piece by where it ends with what it takes with it
-  pub reach_as : (s : List ℕ) (x : Placed) (r : Stop) → ReachesAs kind x.name s x.end x.column r → reach_of kind s x ≡ record { name = x.name; end = r.at; column = r.column }
-  reach_as s x r h = go (eqb x.name Data) refl
+  pub reach_as : (s : List ℕ) (x : Placed) (r : Stop) → ReachesAs kind (number x.name) s x.end x.column r → reach_of kind s x ≡ record { name = x.name; end = r.at; column = r.column }
+  reach_as s x r h = go (eqb (number x.name) Data) refl
     where
-      go : (b : Bool) → eqb x.name Data ≡ b → cond b (record { name = x.name; end = (text_left kind s x).index; column = (text_left kind s x).column }) x ≡ record { name = x.name; end = r.at; column = r.column }
-      go true e = reaches_is s x r (h.0 (eqb-true x.name Data e))
-      go false e = let z = sym (h.1 (eqb-false x.name Data e)) in λ i. record { name = x.name; end = (z i).at; column = (z i).column }
+      go : (b : Bool) → eqb (number x.name) Data ≡ b → cond b (record { name = x.name; end = (text_left kind s x).index; column = (text_left kind s x).column }) x ≡ record { name = x.name; end = r.at; column = r.column }
+      go true e = reaches_is s x r (h.0 (eqb-true (number x.name) Data e))
+      go false e = let z = sym (h.1 (eqb-false (number x.name) Data e)) in λ i. record { name = x.name; end = (z i).at; column = (z i).column }
 
   -- the bytes that are passed
   record Extent (s : List ℕ) (from column : ℕ) (r : Stop) : Type 0 where
@@ -202,20 +199,16 @@ module _ {kind : ℕ → ℕ} (ok : Reads kind) where
       go true e = let z = ends_somewhere ok s from column h m in record { stop = z.stop; reaches = (λ d. z.reaches, λ d. absurd (d (eqb-true n Data e))) }
       go false e = record { stop = record { at = from; column = column }; reaches = (λ d. absurd (eqb-false n Data e d), λ d. refl) }
 
-  -- the end lies in the sheet
-  pub reach_fits : (n : ℕ) (s : List ℕ) (from column : ℕ) (r : Stop) → (length s ≤ 65536) × (from ≤ length s) × (column ≤ 4 * from + 1) → ReachesAs kind n s from column r → (r.at ≤ length s) × (r.column ≤ 4 * r.at + 1)
-  reach_fits n s from column r g h =
-      let x = extent ok n s from column r h in
-      let q = inside_past s (point_in 0 from column) x.text (line_body (drop r.at s)) (record { short = g.0; within = g.1; narrow = g.2; lined = omega arith; flat = refl }) x.line in
-      (omega (arith, x.end, q.within), omega (arith, x.end, x.wide, q.narrow))
-
-  -- the end of a piece too
-  pub next_fits : (s : List ℕ) (part : Part) (i c : ℕ) → (length s ≤ 65536) × (i ≤ length s) × (c ≤ 4 * i + 1) → let x = next_at i c (pieces_of kind part (line_body (drop i s))) in (x.end ≤ length s) × (x.column ≤ 4 * x.end + 1)
-  next_fits s part i c h = go (next-piece ok s (point_in 0 i c) (record { short = h.0; within = h.1; narrow = h.2; lined = omega arith; flat = refl }) part)
+  -- the end of a piece lies in the sheet
+  pub next_fits : (s : List ℕ) (part : Part) (i c : ℕ) (x : Placed) {r : Option Placed} → (length s ≤ 65536) × (i ≤ length s) × (c ≤ 4 * i + 1) → r ≡ Some x → r ≡ next_at i c (pieces_of kind part (line_body (drop i s))) → (x.end ≤ length s) × (x.column ≤ 4 * x.end + 1)
+  next_fits s part i c x h a b = go (next-piece ok s (point_in 0 i c) (record { short = h.0; within = h.1; narrow = h.2; lined = omega arith; flat = refl }) part)
     where
-      go : (Next kind) s part (point_in 0 i c) → let x = next_at i c (pieces_of kind part (line_body (drop i s))) in (x.end ≤ length s) × (x.column ≤ 4 * x.end + 1)
-      go (none e) = rw (ap (pieces_of kind part) e ∙ no_pieces ok part) (h.1, h.2)
-      go (some f) = rw f.pieces (f.inside.within, f.inside.narrow)
+      go : (Next kind) s part (point_in 0 i c) → (x.end ≤ length s) × (x.column ≤ 4 * x.end + 1)
+      go (none f) = let z : ◌≡◌ {A = Option Placed} (Some x) None = sym a ∙ b ∙ ap (next_at i c) (ap (pieces_of kind part) f ∙ no_pieces ok part) in cc
+      go (some {n} {u} f) =
+          let z : ◌≡◌ {A = Option Placed} (Some x) (Some (placed (name_of n) i c u)) = sym a ∙ b ∙ ap (next_at i c) f.pieces in
+          let y : x ≡ placed (name_of n) i c u = cc in
+          rw y (f.inside.within, f.inside.narrow)
 
 -- ## What is left of a row
 
@@ -236,7 +229,7 @@ tail-begins Delimiter e xs = enters GfmTableDelimiterCell delimiter_inner e xs
 tail-begins Body e xs = enters GfmTableCell row_inner e xs
 
 -- a step from a place on over a piece of the name n, by whether it is a text and whether it is data
-module _ {kind : ℕ → ℕ} (ok : Reads kind) (l i c k n : ℕ) (j e : ℕ) (o seen waits m : Bool) where
+module _ {kind : ℕ → ℕ} (ok : Reads kind) (l i c k : ℕ) (n : Name) (j e : ℕ) (o seen waits m : Bool) where
   abbrev step : Bool → Bool → Step
   step t d =
       record {
@@ -244,41 +237,28 @@ module _ {kind : ℕ → ℕ} (ok : Reads kind) (l i c k n : ℕ) (j e : ℕ) (o
         column = c;
         slot = k;
         name = n;
-        link = cond d 1 0;
+        linked = d;
         opens = o;
         enters = t && (d || waits);
         leaves = t && not ((t && not d) && m);
         end = j;
         stop = e;
-        seen = seen || not (eqb n SpaceOrTab);
+        seen = seen || not (eqb (number n) SpaceOrTab);
         waits = o || (waits && not t);
       }
 
   -- its events in a head line or a body row
-  row_events_lem : (t d : Bool) → t ≡ d → row_turn GfmTableCell o t (enter n (point_in l i c)) (leave n (point_in l j e)) ≡ step_events Body l (step t d)
+  row_events_lem : (t d : Bool) → t ≡ d → row_turn GfmTableCell o t (enter (number n) (point_in l i c)) (leave (number n) (point_in l j e)) ≡ step_events Body l (step t d)
   row_events_lem true true h = refl
   row_events_lem true false h = absurd (true≢false h)
   row_events_lem false true h = absurd (true≢false (sym h))
   row_events_lem false false h = refl
 
   -- its events in a delimiter row
-  mark_events : (t d : Bool) → d ≡ false → mark_turn GfmTableDelimiterCell o (waits && t) (t && not m) (enter n (point_in l i c)) (leave n (point_in l j e)) ≡ step_events Delimiter l (step t d)
+  mark_events : (t d : Bool) → d ≡ false → mark_turn GfmTableDelimiterCell o (waits && t) (t && not m) (enter (number n) (point_in l i c)) (leave (number n) (point_in l j e)) ≡ step_events Delimiter l (step t d)
   mark_events t true h = absurd (true≢false h)
-  mark_events true false h = ap (λ (b : Bool). mark_turn GfmTableDelimiterCell o b (not m) (enter n (point_in l i c)) (leave n (point_in l j e))) (and_true waits)
-  mark_events false false h = ap (λ (b : Bool). mark_turn GfmTableDelimiterCell o b false (enter n (point_in l i c)) (leave n (point_in l j e))) (and_false waits)
-
-  -- in a row whose texts are data, each is entered and left by its step
-  text-plain : (t d : Bool) → t ≡ d → step t d ≡ record { at = i; column = c; slot = k; name = n; link = cond d 1 0; opens = o; enters = d; leaves = d; end = j; stop = e; seen = seen || not (eqb n SpaceOrTab); waits = o || (waits && not d) }
-  text-plain true true h = refl
-  text-plain true false h = absurd (true≢false h)
-  text-plain false true h = absurd (true≢false (sym h))
-  text-plain false false h = refl
-
-  -- in a row without data
-  mark-plain : (t d : Bool) → d ≡ false → step t d ≡ record { at = i; column = c; slot = k; name = n; link = 0; opens = o; enters = t && waits; leaves = t && not (t && m); end = j; stop = e; seen = seen || not (eqb n SpaceOrTab); waits = o || (waits && not t) }
-  mark-plain t true h = absurd (true≢false h)
-  mark-plain true false h = refl
-  mark-plain false false h = refl
+  mark_events true false h = ap (λ (b : Bool). mark_turn GfmTableDelimiterCell o b (not m) (enter (number n) (point_in l i c)) (leave (number n) (point_in l j e))) (and_true waits)
+  mark_events false false h = ap (λ (b : Bool). mark_turn GfmTableDelimiterCell o b false (enter (number n) (point_in l i c)) (leave (number n) (point_in l j e))) (and_false waits)
 
 -- no piece of a delimiter row is data
 not_data : (n : ℕ) → delimiter_piece n ≡ true → eqb n Data ≡ false
@@ -287,58 +267,35 @@ not_data n =
 
 -- ## One step
 
--- the name of the next piece of a head line or a body row: a text's only if it is data
-next-text : (i c : ℕ) {ps : List Piece} → Named row_piece ps → let n = (next_at i c ps).name in is_text_name n ≡ eqb n Data
-next-text i c Named.none = refl
-next-text i c (named {x = x} h hs) = is_data x.name h
-
--- that of a delimiter row: never data
-next-mark : (i c : ℕ) {ps : List Piece} → Named delimiter_piece ps → eqb (next_at i c ps).name Data ≡ false
-next-mark i c Named.none = refl
-next-mark i c (named {x = x} h hs) = not_data x.name h
-
 module _ {kind : ℕ → ℕ} (ok : Reads kind) where
-  -- the step over the next piece of a head line or a body row
-  pub text-step : (s : List ℕ) (w : Within)
-      → let x = next_at w.at w.column (pieces_of kind Body (line_body (drop w.at s))) in
-      let y = reach_of kind s x in
-      let o = opens_at kind s w.seen x.name x.end in
-      let d = eqb x.name Data in
-      step_of kind s Body w ≡ record { at = w.at; column = w.column; slot = w.slot; name = x.name; link = cond d 1 0; opens = o; enters = d; leaves = d; end = y.end; stop = y.column; seen = w.seen || not (eqb x.name SpaceOrTab); waits = o || (w.waits && not d) }
+  -- the step over the next piece
+  pub step_by : (s : List ℕ) (part : Part) (w : Within) {r y : Option Placed} → r ≡ y → r ≡ next_at w.at w.column (pieces_of kind part (line_body (drop w.at s))) → step_over kind s w y ≡ step_of kind s part w
   unfolding step_of
-  text-step s w =
-      let x = next_at w.at w.column (pieces_of kind Body (line_body (drop w.at s))) in
-      let y = reach_of kind s x in
-      text-plain ok 0 w.at w.column w.slot x.name y.end y.column (opens_at kind s w.seen x.name x.end) w.seen w.waits (text_next kind (line_body (drop x.end s))) (is_text_name x.name) (eqb x.name Data)
-      (next-text w.at w.column (rows_named kind false (line_body (drop w.at s))))
-
-  -- that over the next piece of a delimiter row
-  pub mark-step : (s : List ℕ) (w : Within)
-      → let x = next_at w.at w.column (pieces_of kind Delimiter (line_body (drop w.at s))) in
-      let o = opens_at kind s w.seen x.name x.end in
-      let t = is_text_name x.name in
-      step_of kind s Delimiter w ≡ record { at = w.at; column = w.column; slot = w.slot; name = x.name; link = 0; opens = o; enters = t && w.waits; leaves = t && not (t && text_next kind (line_body (drop x.end s))); end = x.end; stop = x.column; seen = w.seen || not (eqb x.name SpaceOrTab); waits = o || (w.waits && not t) }
-  unfolding step_of
-  mark-step s w =
-      let x = next_at w.at w.column (pieces_of kind Delimiter (line_body (drop w.at s))) in
-      let o = opens_at kind s w.seen x.name x.end in
-      let m = text_next kind (line_body (drop x.end s)) in
-      let d = next-mark w.at w.column (delimiters_named kind (line_body (drop w.at s))) in
-      let y : (reach_of kind) s x ≡ x = ap (λ (b : Bool). cond b (record { name = x.name; end = (text_left kind s x).index; column = (text_left kind s x).column }) x) d in
-      ap (step_from w x o ((is_text_name x.name && not (eqb x.name Data)) && m)) y
-      ∙ mark-plain ok 0 w.at w.column w.slot x.name x.end x.column o w.seen w.waits m (is_text_name x.name) (eqb x.name Data) d
+  step_by s part w a b = ap (step_over kind s w) (sym a ∙ b)
 
   -- the step over a piece that stands first
   step_is : (s : List ℕ) (part : Part) (w : Within) {n : ℕ} {u : List ℕ} {ps : List Piece} → pieces_of kind part (line_body (drop w.at s)) ≡ record { name = n; text = u } ∷ ps
-      → let x = placed n w.at w.column u in
-      step_of kind s part w ≡ step_from w x (opens_at kind s w.seen n x.end) ((is_text_name n && not (eqb n Data)) && text_next kind (line_body (drop x.end s))) (reach_of kind s x)
+      → step_of kind s part w ≡ step_over kind s w (Some (placed (name_of n) w.at w.column u))
   unfolding step_of
   step_is s part w e = rw e
 
-  -- the first slot of a step
-  pub step_slot : (s : List ℕ) (part : Part) (w : Within) → (step_of kind s part w).slot ≡ w.slot
+  -- where none stands there, no step is left
+  no_step : (s : List ℕ) (part : Part) (w : Within) → pieces_of kind part (line_body (drop w.at s)) ≡ [] → step_of kind s part w ≡ None
   unfolding step_of
-  step_slot s part w = refl
+  no_step s part w e = rw e
+
+  -- the first slot of a step, or of the next one
+  abbrev slot_from : Within → Option Step → ℕ
+  slot_from w None = w.slot
+  slot_from w (Some x) = x.slot
+
+  step_slot : (s : List ℕ) (part : Part) (w : Within) (x : Step) → step_of kind s part w ≡ Some x → x.slot ≡ w.slot
+  unfolding step_of
+  step_slot s part w x e = sym (ap (slot_from w) e) ∙ same (next_at w.at w.column (pieces_of kind part (line_body (drop w.at s))))
+    where
+      same : (y : Option Placed) → slot_from w (step_over kind s w y) ≡ w.slot
+      same None = refl
+      same (Some y) = refl
 
   module _ (s : List ℕ) (part : Part) (l : ℕ) where
     abbrev pub point_at : Within → Point
@@ -363,6 +320,10 @@ module _ {kind : ℕ → ℕ} (ok : Reads kind) where
     abbrev pub Good : Within → Type 0
     Good w = Inside s (point_at w) × (w.slot ≤ 4294967297 + 6 * w.at)
 
+    -- the first slot of a step is small
+    pub slot_few : (w : Within) (x : Step) → Good w → step_of kind s part w ≡ Some x → x.slot < 1000000000000
+    slot_few w x h e = let i = h.0 in omega (arith, step_slot s part w x e, h.1, i.within, i.short)
+
     -- the step x goes on from w
     record Moves (w : Within) (x : Step) : Type 0 where
       events : (e : Point) → tail_in part e w.waits w.seen (comes_at w) ≡ step_events part l x ++ tail_in part e x.waits x.seen (comes_at (behind x))
@@ -378,19 +339,27 @@ module _ {kind : ℕ → ℕ} (ok : Reads kind) where
     abbrev q : Point
     q = past p u
 
+    -- the number of its name
+    abbrev m : ℕ
+    m = number (name_of n)
+
     -- the step with its end
     abbrev step_to : Stop → Step
-    step_to r = step ok l w.at w.column w.slot n r.at r.column (opens_at kind s w.seen n q.index) w.seen w.waits (text_next kind (rest_of s q)) (is_text_name n) (eqb n Data)
+    step_to r = step ok l w.at w.column w.slot (name_of n) r.at r.column (opens_at kind s w.seen m q.index) w.seen w.waits (text_next kind (rest_of s q)) (is_text_name m) (eqb m Data)
 
-    stepped : (part : Part) → Piecing kind s part p n u → (r : Stop) → ReachesAs kind n s q.index q.column r → step_of kind s part w ≡ step_to r
+    stepped : (part : Part) → Piecing kind s part p n u → (r : Stop) → ReachesAs kind m s q.index q.column r → step_of kind s part w ≡ Some (step_to r)
     stepped part f r h =
-        let x = placed n w.at w.column u in
-        step_is s part w f.pieces ∙ ap (step_from w x (opens_at kind s w.seen n x.end) ((is_text_name n && not (eqb n Data)) && text_next kind (line_body (drop x.end s)))) (reach_as ok s x r h)
+        let x = placed (name_of n) w.at w.column u in
+        step_is s part w f.pieces ∙ ap (λ (y : Placed). Some (step_from w x (opens_at kind s w.seen m x.end) ((is_text_name m && not (eqb m Data)) && text_next kind (line_body (drop x.end s))) y)) (reach_as ok s x r h)
+
+    -- the pieces, the first by its name's number
+    pieces_as : (part : Part) → Piecing kind s part p n u → pieces_of kind part (rest_of s p) ≡ record { name = m; text = u } ∷ pieces_of kind part (rest_of s q)
+    pieces_as part f = f.pieces ∙ ap {B = List Piece} (λ (k : ℕ). record { name = k; text = u } ∷ pieces_of kind part (rest_of s q)) (sym f.real)
 
     -- what is behind the step, by the bytes that it passed
-    module _ (part : Part) (f : (Piecing kind) s part p n u) (r : Stop) (h : (ReachesAs kind) n s q.index q.column r) where
+    module _ (part : Part) (f : (Piecing kind) s part p n u) (r : Stop) (h : (ReachesAs kind) m s q.index q.column r) where
       abbrev passes : (Extent ok) s q.index q.column r
-      passes = extent ok n s q.index q.column r h
+      passes = extent ok m s q.index q.column r h
 
       stop_is : point_in l r.at r.column ≡ past q passes.text
       stop_is = λ i. point_in l (passes.end i) (passes.wide i)
@@ -398,9 +367,11 @@ module _ {kind : ℕ → ℕ} (ok : Reads kind) where
       line-is : rest_of s q ≡ passes.text ++ rest_of s (past q passes.text)
       line-is = passes.line ∙ ap (λ (a : ℕ). passes.text ++ line_body (drop a s)) passes.end
 
-      moving : ((e : Point) → tail_in part e w.waits w.seen (comes_at s part l w) ≡ step_events part l (step_to r) ++ tail_in part e (step_to r).waits (step_to r).seen (comes_at s part l (behind (step_to r)))) → Moves s part l w (step_of kind s part w)
-      moving core =
-          subst (Moves s part l w) (sym (stepped part f r h))
+      moving : ((e : Point) → tail_in part e w.waits w.seen (comes_at s part l w) ≡ step_events part l (step_to r) ++ tail_in part e (step_to r).waits (step_to r).seen (comes_at s part l (behind (step_to r)))) → (x : Step) → step_of kind s part w ≡ Some x → Moves s part l w x
+      moving core x e =
+          let z : ◌≡◌ {A = Option Step} (Some (step_to r)) (Some x) = sym (stepped part f r h) ∙ e in
+          let y : step_to r ≡ x = cc in
+          subst (Moves s part l w) y
           (record {
             events = core;
             line = ap (λ (z : Point). past z (rest_of s z)) stop_is ∙ past-append q passes.text (rest_of s (past q passes.text)) ∙ ap (past q) (sym line-is) ∙ f.line;
@@ -408,62 +379,65 @@ module _ {kind : ℕ → ℕ} (ok : Reads kind) where
             long = omega (arith, f.long, passes.end);
           })
 
-    body-moves : (Piecing kind) s Body p n u → Moves s Body l w (step_of kind s Body w)
+    body-moves : (Piecing kind) s Body p n u → (x : Step) → step_of kind s Body w ≡ Some x → Moves s Body l w x
     body-moves f =
-        let z = takes ok n s q.index q.column f.inside.short f.inside.narrow in
+        let z = takes ok m s q.index q.column f.inside.short f.inside.narrow in
         let r = z.stop in
-        let t = is_data n (first-named (subst (Named row_piece) f.pieces (rows_named kind false (rest_of s p)))) in
+        let g = pieces_as Body f in
+        let t = is_data m (first-named (subst (Named row_piece) g (rows_named kind false (rest_of s p)))) in
         let x = step_to r in
         moving Body f r z.reaches
         (λ e.
-        row_at ok GfmTableCell e s l w.at w.column n u q.index q.column refl refl f.pieces w.seen r z.reaches
+        row_at ok GfmTableCell e s l w.at w.column m u q.index q.column refl refl g w.seen r z.reaches
         ∙ ap (λ (es : List Event). es ++ tail GfmTableCell row_inner e x.seen (comes_at s Body l (behind x)))
-        (row_events_lem ok l w.at w.column w.slot n r.at r.column x.opens w.seen w.waits (text_next kind (rest_of s q)) (is_text_name n) (eqb n Data) t))
+        (row_events_lem ok l w.at w.column w.slot (name_of n) r.at r.column x.opens w.seen w.waits (text_next kind (rest_of s q)) (is_text_name m) (eqb m Data) t))
 
-    delimiter-moves : (Piecing kind) s Delimiter p n u → Moves s Delimiter l w (step_of kind s Delimiter w)
+    delimiter-moves : (Piecing kind) s Delimiter p n u → (x : Step) → step_of kind s Delimiter w ≡ Some x → Moves s Delimiter l w x
     delimiter-moves f =
         let r : Stop = record { at = q.index; column = q.column } in
-        let d = not_data n (first-named (subst (Named delimiter_piece) f.pieces (delimiters_named kind (rest_of s p)))) in
+        let g = pieces_as Delimiter f in
+        let d = not_data m (first-named (subst (Named delimiter_piece) g (delimiters_named kind (rest_of s p)))) in
         let x = step_to r in
-        moving Delimiter f r (λ z. absurd (eqb-false n Data d z), λ z. refl)
+        moving Delimiter f r (λ z. absurd (eqb-false m Data d z), λ z. refl)
         (λ e.
-        marks-at ok GfmTableDelimiterCell e s l w.at w.column n u q.index q.column refl refl f.pieces w.waits w.seen
+        marks-at ok GfmTableDelimiterCell e s l w.at w.column m u q.index q.column refl refl g w.waits w.seen
         ∙ ap (λ (es : List Event). es ++ tail_marks GfmTableDelimiterCell e x.waits x.seen (comes_at s Delimiter l (behind x)))
-        (mark_events ok l w.at w.column w.slot n r.at r.column x.opens w.seen w.waits (text_next kind (rest_of s q)) (is_text_name n) (eqb n Data) d))
+        (mark_events ok l w.at w.column w.slot (name_of n) r.at r.column x.opens w.seen w.waits (text_next kind (rest_of s q)) (is_text_name m) (eqb m Data) d))
 
     -- a head line is read as a body row is
-    head-moves : Moves s Body l w (step_of kind s Body w) → Moves s Head l w (step_of kind s Head w)
-    unfolding step_of
-    head-moves m = record { events = m.events; line = m.line; inside = m.inside; long = m.long }
+    head-moves : (x : Step) → Moves s Body l w x → Moves s Head l w x
+    head-moves x f = record { events = f.events; line = f.line; inside = f.inside; long = f.long }
 
     as_body : (Piecing kind) s Head p n u → Piecing kind s Body p n u
-    as_body f = record { pieces = f.pieces; long = f.long; line = f.line; inside = f.inside }
+    as_body f = record { pieces = f.pieces; real = f.real; long = f.long; line = f.line; inside = f.inside }
 
-    moves : (part : Part) → Piecing kind s part p n u → Moves s part l w (step_of kind s part w)
-    moves Head f = head-moves (body-moves (as_body f))
-    moves Delimiter f = delimiter-moves f
-    moves Body f = body-moves f
+    same_step : step_of kind s Head w ≡ step_of kind s Body w
+    unfolding step_of
+    same_step = refl
+
+    moves : (part : Part) → Piecing kind s part p n u → (x : Step) → step_of kind s part w ≡ Some x → Moves s part l w x
+    moves Head f x e = head-moves x (body-moves (as_body f) x (sym same_step ∙ e))
+    moves Delimiter f x e = delimiter-moves f x e
+    moves Body f x e = body-moves f x e
 
   -- ## All steps
 
   module _ (s : List ℕ) (part : Part) (l : ℕ) where
-    -- a step is written
-    pub record Onward (w : Within) : Type 0 where
-      pub good : Good s part l (behind (step_of kind s part w))
-      pub more : (zs : List Event) → length zs ≤ nowhere → makes s part l w zs ≡ makes s part l (behind (step_of kind s part w)) (step_put part l (step_of kind s part w) (slots_in (step_of kind s part w)) zs)
-      pub long : w.at < (step_of kind s part w).end
+    -- the step x is written
+    pub record Onward (w : Within) (x : Step) : Type 0 where
+      pub good : Good s part l (behind x)
+      pub more : (zs : List Event) → length zs ≤ nowhere → makes s part l w zs ≡ makes s part l (behind x) (step_put part l x (slots_in x) zs)
+      pub long : w.at < x.end
 
-    onward : (w : Within) → Good s part l w → Moves s part l w (step_of kind s part w) → Onward w
-    onward w h m =
-        let x = step_of kind s part w in
+    onward : (w : Within) (x : Step) → Good s part l w → x.slot ≡ w.slot → Moves s part l w x → Onward w x
+    onward w x h k m =
         let v = behind x in
         let es = step_events part l x in
         let rest = left_at s part l v in
-        let k = step_slot s part w in
         let a = leave (cell_of part) (start_of l x) in
         let b = enter (cell_of part) (start_of l x) in
         let c = enter (value_of part) (start_of l x) in
-        let d = leave x.name (stop_of l x) in
+        let d = leave (number x.name) (stop_of l x) in
         let f = leave (value_of part) (stop_of l x) in
         let q : left_at s part l w ≡ es ++ rest = m.events (end_at s part l w) ∙ ap (λ (e : Point). es ++ tail_in part e x.waits x.seen (comes_at s part l v)) (sym m.line) in
         let n : v.slot ≡ w.slot + length es = count x.opens x.enters x.leaves x.slot a b c (entry_in l x) d f ∙ ap (λ (j : ℕ). j + length es) k in
@@ -479,19 +453,19 @@ module _ {kind : ℕ → ℕ} (ok : Reads kind) where
           long = m.long;
         }
 
-    -- something is left of the line, and a step goes on
-    pub goes : (w : Within) (end : ℕ) → Good s part l w → end ≡ (end_at s part l w).index → w.at < end → Onward w
-    goes w end h q g = go (next-piece ok s (point_at s part l w) h.0 part)
+    -- a step goes on
+    pub goes : (w : Within) (x : Step) → Good s part l w → step_of kind s part w ≡ Some x → Onward w x
+    goes w x h e = go (next-piece ok s (point_at s part l w) h.0 part)
       where
-        go : (Next kind) s part (point_at s part l w) → Onward w
-        go (none e) = absurd (omega (arith, ap length e, q, g))
-        go (some {n = n} {u = u} f) = onward w h (moves s l w n u part f)
+        go : (Next kind) s part (point_at s part l w) → Onward w x
+        go (none f) = let z : ◌≡◌ {A = Option Step} None (Some x) = sym (no_step s part w (ap (pieces_of kind part) f ∙ no_pieces ok part)) ∙ e in cc
+        go (some {n = n} {u = u} f) = onward w x h (step_slot s part w x e) (moves s l w n u part f x e)
 
-    -- nothing is left, and the last cell is left
-    pub stops : (w : Within) (end : ℕ) (zs : List Event) → Good s part l w → end ≡ (end_at s part l w).index → end ≤ w.at
+    -- no step is left, and the last cell is left
+    pub stops : (w : Within) (zs : List Event) → Good s part l w → step_of kind s part w ≡ None
         → makes s part l w zs ≡ (record { at = w.at; column = w.column; slot = w.slot + 1 }, set zs w.slot (leave (cell_of part) (point_at s part l w)))
     unfolding passed
-    stops w end zs h d g = go (next-piece ok s (point_at s part l w) h.0 part)
+    stops w zs h g = go (next-piece ok s (point_at s part l w) h.0 part)
       where
         go : (Next kind) s part (point_at s part l w) → makes s part l w zs ≡ (record { at = w.at; column = w.column; slot = w.slot + 1 }, set zs w.slot (leave (cell_of part) (point_at s part l w)))
         go (none e) =
@@ -502,7 +476,8 @@ module _ {kind : ℕ → ℕ} (ok : Reads kind) where
             ap (λ (ps : List Piece). tail_in part (past p (rest_of s p)) w.waits w.seen (passed p ps)) n ∙ tail-ends part (past p (rest_of s p)) w.waits w.seen ∙ ap (λ (z : Point). leave (cell_of part) z ∷ []) r in
             let a : wrote w.slot (left_at s part l w) zs ≡ set zs w.slot (leave (cell_of part) p) = ap (λ (es : List Event). wrote w.slot es zs) q ∙ wrote_one w.slot (leave (cell_of part) p) zs in
             λ j. (record { at = (r j).index; column = (r j).column; slot = w.slot + length (q j) }, a j)
-        go (some f) = absurd (omega (arith, f.long, ap (λ (z : Point). z.index) f.line, d, g))
+        go (some {n = n} {u = u} f) =
+            let z : ◌≡◌ {A = Option Step} (step_over kind s w (Some (placed (name_of n) w.at w.column u))) None = sym (step_is s part w f.pieces) ∙ g in cc
 
     -- the first cell is entered
     pub opening : (from k : ℕ) (ys : List Event) → Inside s (point_in l from 1)

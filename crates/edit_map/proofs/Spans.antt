@@ -2,6 +2,7 @@
 -- Assumes nothing.
 use Prim.Native.Nat.{ℕ, ◌+◌, ◌-◌, ◌*◌, ◌≤◌, ◌<◌}
 use mathlib.Core.Path.{◌≡◌, refl, sym, ap, ◌∙◌}
+use mathlib.Core.Logic.{◌⊎◌, inl, inr}
 use mathlib.Core.List.{List, [], ◌∷◌, ◌++◌, append_assoc}
 use mathlib.Core.Bool.{Bool, true, false, cond, ◌||◌, ◌&&◌, not, true≢false}
 use lib.Dec.{eqb}
@@ -9,17 +10,21 @@ use lib.ListN.{length, drop, get_or, length-append}
 use native.Mathlib.Omega.{arith}
 use borrow.Author.Tests.{eq-eqb, ne_eqb, eqb-true, eqb-false}
 use Rattle.tokenizer.specs.declared.event.Point.{Point}
-use Rattle.tokenizer.specs.Bytes.{is_end, Reads}
+use Rattle.tokenizer.specs.declared.kinds.Kind.{Kind}
+use Rattle.tokenizer.specs.declared.kinds.Kind.TheVariants.{End, Pipe}
+use Rattle.tokenizer.specs.Bytes.{kind_number, is_end, Reads}
 use Rattle.tokenizer.specs.Lines.{line_body, is_empty, indent, unindented, blank}
 use Rattle.tokenizer.specs.Moves.{ahead_of, Inside}
 use Rattle.tokenizer.specs.Points.{column_after, column_past, past}
 use Rattle.tokenizer.specs.Events.{Data, GfmTableCellDivider, GfmTableDelimiterFiller, GfmTableDelimiterMarker, SpaceOrTab, enter, leave}
-use Rattle.tokenizer.proofs.Ahead.{Front, past-append, past-none, rest-past, inside_past, over_inside}
+use Rattle.tokenizer.proofs.Ahead.{Front, goes, past-append, past-none, rest-past, inside_past}
 use Rattle.tokenizer.proofs.Runs.{space_on, space_split}
+use Rattle.gfm_table.specs.declared.rows.Stop.{Stop}
 use Rattle.gfm_table.specs.Rows.{Piece, Passed, joins, on_pieces, row_name, odd_after, row_pieces, delimiter_name, delimiter_pieces, passed}
 use Rattle.gfm_table.specs.Machine.{data_run, data_rest}
 use Rattle.gfm_table.proofs.Runs.{led, led-some, space_pieces, data_some, data_split, data_pieces, data_columns}
 use Rattle.gfm_table.proofs.Passing.{line_from}
+use Rattle.gfm_table.proofs.KindsAhead.{apart_kinds}
 use Rattle.edit_map.specs.Base.{is_text_name}
 use Rattle.edit_map.specs.Tables.{any_solid}
 use Rattle.edit_map.specs.Cells.{text_ahead, later, last_ahead}
@@ -186,6 +191,11 @@ module _ {kind : ℕ → ℕ} (ok : Reads kind) where
     pub text_comes : (k : ℕ) → k ≡ ahead_of kind (drop t s) → (k ≡ 2 → ⊥) → (k ≡ 3 → ⊥) → text_next kind (line_from s i) ≡ true
     text_comes k q g l = text_ahead_lem ∙ rw (← q, ne_eqb k 2 g, ne_eqb k 3 l)
 
+-- a line end or a pipe
+pub last_kind : (k : Kind) → (k ≡ End) ⊎ (k ≡ Pipe) → (2 ≤ kind_number k) × (kind_number k ≤ 3)
+last_kind k (inl e) = rw e (omega arith, omega arith)
+last_kind k (inr e) = rw e (omega arith, omega arith)
+
 -- ## Columns of whitespace
 
 -- a point at a place, in a column
@@ -199,10 +209,6 @@ module _ {kind : ℕ → ℕ} (ok : Reads kind) (s : List ℕ) (i c : ℕ) (f : 
   pub space_column : column_past c (indent kind (line_from s i)) ≡ column_past (column_after c (get_or s i 0)) (indent kind (line_from s (i + 1)))
   unfolding column_past
   space_column = ap (column_past c) (ap (indent kind) f.line ∙ space_on kind _ _ f.is)
-
-  pub space_narrow : length s ≤ 65536 → c ≤ 4 * i + 1 → column_after c (get_or s i 0) ≤ 4 * (i + 1) + 1
-  unfolding column_past
-  space_narrow h n = let l = f.below in (over_inside s (point_at i c) 1 f (inside-at h (omega arith) n)).narrow
 
 -- ## One text more
 
@@ -360,3 +366,10 @@ module _ {kind : ℕ → ℕ} (ok : Reads kind) where
         narrow = omega (arith, d, m, e, a, q.narrow, next-column ok u c);
         goes = goes_more ok j (tc + (j - t)) k x (omega (arith, m, e)) d;
       }
+
+  -- a text goes on where neither a line end nor a pipe stands behind the whitespace
+  pub goes_next : (s : List ℕ) (from x t : Stop) (k : Kind) (j : ℕ) → length s ≤ 65536 → Goes kind s from.at from.column x.at x.column × (x.column ≤ 4 * x.at + 1) × (x.at ≤ length s) → (t.at ≡ x.at + length (indent kind (line_from s x.at))) × (t.column ≡ column_past x.column (indent kind (line_from s x.at)))
+      → kind_number k ≡ ahead_of kind (drop t.at s) → (k ≡ End → ⊥) → (k ≡ Pipe → ⊥) → j ≡ t.at + length (data_run kind false (line_from s t.at)) → Next kind s from.at from.column x.at x.column t.at t.column j
+  goes_next s from x t k j h g e f a b d =
+      let n = apart_kinds k End a in
+      next s from.at from.column x.at x.column t.at t.column j h (goes ok s t.at (kind_number k) f n).below g.1 e.0 e.1 d (text_comes ok s x.at t.at e.0 (kind_number k) f n (apart_kinds k Pipe b)) g.0

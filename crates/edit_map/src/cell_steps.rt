@@ -82,7 +82,8 @@ pub fn next_step<R: RowKind>(text: &Text, w: Within) -> Option<Step>
     let data = x.name == Name::Data;
     let solid = x.name != Name::SpaceOrTab;
     let mark = is_text_name(x.name as u8);
-    let more = mark && !data && text_next(text, x.end as usize);
+    let delimits = mark & !data;
+    let more = delimits && text_next(text, x.end as usize);
     Some(Step {
         at: w.at,
         column: w.column,

@@ -5,6 +5,7 @@ pub mod KindTables
 pub mod Runs
 pub mod Ahead
 pub mod SameKinds
+pub mod SameNames
 pub mod Ends
 pub mod Places
 pub mod Starts

@@ -1,38 +1,46 @@
 -- `cell_spans::span` meets its contract.
 -- Assumes nothing.
-use mathlib.Core.Path.{◌≡◌}
 use native.Mathlib.Omega.{arith}
-use Rattle.tokenizer.specs.Bytes.{kind_in}
-use Rattle.tokenizer.proofs.Ahead.{goes}
-use Rattle.edit_map.proofs.Spans.{text-stops, text_comes, goes_none, goes_ends, Next, next}
+use Rattle.edit_map.proofs.Spans.{goes_next, goes_none, goes_ends, text-stops, last_kind}
 use Rattle.edit_map.proofs.cell_spans.span.Goals as goal
-use Rattle.edit_map.proofs.cell_spans.span.Goals.{After-struct_known-in_default-1, in_default-via-then-kind_at-lt2, in_default-via-else-kind_at-lt2+else-this-lt4}
 
-pub loop-i-init : goal.loop-i-init
-loop-i-init c = (goes_none c.requires.2.reads _ _ _, c.requires.1)
+pub loop-x-init : goal.loop-x-init
+loop-x-init c = (goes_none c.args.text.now.passes.reads _ _ _, c.requires.2, c.requires.1)
 
-pub returns-in-2 : goal.returns-in-2
-returns-in-2 c =
-    let l = c.loop-i in
-    let x = c.spaces_past-t in
-    goes_ends c.requires.2.reads l.invariant.0 (text-stops c.requires.2.reads _ l.i x.result.at x.ensures.0 _ c.kind_at.ensures (omega arith) (omega arith))
+pub spaces_past-t-requires : goal.spaces_past-t-requires
+spaces_past-t-requires c = (c.requires.0, c.loop-x.invariant.2, c.loop-x.invariant.1)
 
--- the text goes on over the next piece
-on : (c : After-struct_known-in_default-1) → Next (kind_in c.args.kinds.now) c.args.s.now c.args.from c.args.column c.loop-i.i c.loop-i.c c.spaces_past-t.result.at c.spaces_past-t.result.column c.text_end-i.result
-on c =
-    let l = c.loop-i in
-    let x = c.spaces_past-t in
-    let k = c.kind_at in
-    let n : k.result ≡ 2 → ⊥ = λ z. elim c.in_default.branch [ in_default-via-then-kind_at-lt2 w ↦ omega arith | in_default-via-else-kind_at-lt2+else-this-lt4 w ↦ omega arith ] in
-    let m : k.result ≡ 3 → ⊥ = λ z. elim c.in_default.branch [ in_default-via-then-kind_at-lt2 w ↦ omega arith | in_default-via-else-kind_at-lt2+else-this-lt4 w ↦ omega arith ] in
-    next c.requires.2.reads _ _ _ l.i l.c x.result.at x.result.column _ c.requires.0 (goes c.requires.2.reads _ _ _ k.ensures n).below l.invariant.1 x.ensures.0 x.ensures.1 c.text_end-i.ensures
-    (text_comes c.requires.2.reads _ l.i x.result.at x.ensures.0 k.result k.ensures n m) l.invariant.0
+pub returns-in-End : goal.returns-in-End
+returns-in-End c =
+    let l = c.loop-x in
+    let t = c.args.text.now in
+    let k = last_kind _ c.in-End.is in
+    goes_ends t.passes.reads l.invariant.0 (text-stops t.passes.reads _ l.x.at c.spaces_past-t.result.at c.spaces_past-t.ensures.0 _ c.kind_at.ensures k.0 k.1)
 
-pub overflow_add-c : goal.overflow_add-c
-overflow_add-c c = let h = on c in record { fits = omega (arith, h.narrow, h.short, c.requires.0) }
+pub overflow_cast-at : goal.overflow_cast-at
+overflow_cast-at c =
+    let l = c.loop-x in
+    let t = c.args.text.now in
+    let h = goes_next t.passes.reads t.bytes.now c.args.from l.x c.spaces_past-t.result c.kind_at.result _ c.requires.0 l.invariant c.spaces_past-t.ensures c.kind_at.ensures c.in_default.not-End c.in_default.not-Pipe c.text_end-at.ensures in
+    record { fits = omega (arith, h.short, c.requires.0) }
 
-pub loop-i-smaller : goal.loop-i-smaller
-loop-i-smaller c = let h = on c in omega (arith, h.onward, h.short, c.spaces_past-t.ensures.0)
+pub overflow_add-x : goal.overflow_add-x
+overflow_add-x c =
+    let l = c.loop-x in
+    let t = c.args.text.now in
+    let h = goes_next t.passes.reads t.bytes.now c.args.from l.x c.spaces_past-t.result c.kind_at.result _ c.requires.0 l.invariant c.spaces_past-t.ensures c.kind_at.ensures c.in_default.not-End c.in_default.not-Pipe c.text_end-at.ensures in
+    record { fits = omega (arith, h.narrow, h.short, c.requires.0) }
 
-pub loop-i-preserved : goal.loop-i-preserved
-loop-i-preserved c = let h = on c in (h.goes, h.narrow)
+pub loop-x-smaller : goal.loop-x-smaller
+loop-x-smaller c =
+    let l = c.loop-x in
+    let t = c.args.text.now in
+    let h = goes_next t.passes.reads t.bytes.now c.args.from l.x c.spaces_past-t.result c.kind_at.result _ c.requires.0 l.invariant c.spaces_past-t.ensures c.kind_at.ensures c.in_default.not-End c.in_default.not-Pipe c.text_end-at.ensures in
+    omega (arith, h.onward, h.short, c.spaces_past-t.ensures.0)
+
+pub loop-x-preserved : goal.loop-x-preserved
+loop-x-preserved c =
+    let l = c.loop-x in
+    let t = c.args.text.now in
+    let h = goes_next t.passes.reads t.bytes.now c.args.from l.x c.spaces_past-t.result c.kind_at.result _ c.requires.0 l.invariant c.spaces_past-t.ensures c.kind_at.ensures c.in_default.not-End c.in_default.not-Pipe c.text_end-at.ensures in
+    (h.goes, h.narrow, h.short)

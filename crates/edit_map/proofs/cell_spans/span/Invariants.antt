@@ -4,8 +4,8 @@ use Rattle.tokenizer.specs.Bytes.{kind_in}
 use Rattle.edit_map.proofs.Spans.{Goes}
 use Rattle.edit_map.proofs.cell_spans.span.Given as goal
 
-abbrev pub invariant-loop-i : goal.invariant-loop-i
-invariant-loop-i l = Goes (kind_in l.kinds) l.s l.from l.column l.i l.c × (l.c ≤ 4 * l.i + 1)
+abbrev pub invariant-loop-x : goal.invariant-loop-x
+invariant-loop-x l = Goes (kind_in l.text.kinds.now) l.text.bytes.now l.fn.from.at l.fn.from.column l.x.at l.x.column × (l.x.column ≤ 4 * l.x.at + 1) × (l.x.at ≤ length l.text.bytes.now)
 
-abbrev pub decreases-loop-i : goal.decreases-loop-i
-decreases-loop-i l = length l.s - l.i
+abbrev pub decreases-loop-x : goal.decreases-loop-x
+decreases-loop-x l = length l.text.bytes.now - l.x.at
