@@ -5,12 +5,15 @@ use mathlib.Core.Path.{◌≡◌, refl, ap, sym, ◌∙◌}
 use mathlib.Core.Bool.{Bool, true, false, cond, ◌&&◌, ◌||◌, not, and-false, false≢true}
 use mathlib.Core.List.{List, [], ◌∷◌}
 use native.Mathlib.Omega.{arith}
-use borrow.Author.Tests.{eq-eqb, ne_eqb, ltb-true, lt-ltb}
+use borrow.Author.Tests.{eq-eqb, ne_eqb, eqb-true, eqb-false, ltb-true}
 use lib.Dec.{eqb, ltb}
 use lib.ListN.{length, drop}
+use Rattle.std.specs.Prelude.{Some, None}
 use Rattle.tokenizer.specs.declared.event.Point.{Point}
+use Rattle.tokenizer.specs.declared.event.LineStart.{LineStart}
 use Rattle.tokenizer.specs.Bytes.{Reads}
 use Rattle.tokenizer.specs.Lines.{line_body, end_at}
+use Rattle.tokenizer.specs.Points.{start_of}
 use Rattle.tokenizer.specs.Places.{Placed, lines_from, lines_past, first_point}
 use Rattle.tokenizer.specs.Moves.{rest_of, line_at, after, Inside}
 use Rattle.tokenizer.proofs.Starts.{first-within}
@@ -18,11 +21,11 @@ use Rattle.tokenizer.proofs.Places.{lines-from}
 use Rattle.tokenizer.proofs.Ends.{end-past, body-inside, after-inside}
 use Rattle.gfm_table.specs.Rows.{row_pieces}
 use Rattle.gfm_table.specs.Heads.{solid, permitted, lone_divider, marked, values, all_values, is_delimiter_row, head_cells}
-use Rattle.gfm_table.specs.Delimiters.{value_count}
+use Rattle.gfm_table.specs.Delimiters.{value_count, positive}
 use Rattle.gfm_table.specs.Places.{point_in}
-use Rattle.gfm_table.proofs.ValuePlaces.{row-counted, count-values}
+use Rattle.gfm_table.proofs.ValuePlaces.{row-counted}
 use Rattle.sheet.specs.Walk.{closes, opens, found, heads, rows}
-use Rattle.sheet.specs.From.{AtLine, columns_if, columns_of, Opens, here}
+use Rattle.sheet.specs.From.{AtLine, columns_of, Opens, here}
 
 -- a sheet starts with a line
 pub start-line : (s : List ℕ) → length s ≤ 65536 → AtLine s (first_point s)
@@ -152,40 +155,31 @@ module _ {kind : ℕ → ℕ} (ok : Reads kind) (s : List ℕ) (on : Bool) (i d 
   pub columns_zero : 0 ≡ value_count kind counted → 0 ≡ columns_of kind s on i d
   columns_zero h = rw (row-counted ok counted on, ← h, and-false (permitted kind on counted))
 
-  -- its indent is not permitted
-  pub columns-row : permitted kind on counted ≡ false → 0 ≡ columns_of kind s on i d
-  columns-row h = rw h
+-- no number is given for 0 alone
+pub not_given : (n : ℕ) → None ≡ positive n → n ≡ 0
+not_given n e = go (eqb n 0) refl e
+  where
+    go : (t : Bool) → eqb n 0 ≡ t → None ≡ cond t None (Some n) → n ≡ 0
+    go true h k = eqb-true n 0 h
+    go false h k = cc
 
-  -- the head line's indent is not
-  pub columns-head : permitted kind on (line_body (drop i s)) ≡ false → 0 ≡ columns_of kind s on i d
-  columns-head h = rw (h, and-false (is_delimiter_row kind on counted))
-
-  -- the head line is blank or a remark
-  pub columns-closed : closes kind (line_body (drop i s)) ≡ true → 0 ≡ columns_of kind s on i d
-  columns-closed h = rw (h, and-false (permitted kind on (line_body (drop i s))), and-false (is_delimiter_row kind on counted))
-
-  -- the next line has values, both indents are permitted, and the head line is neither
-  pub columns-both : (value_count kind counted ≡ 0 → ⊥) → permitted kind on counted ≡ true → permitted kind on (line_body (drop i s)) ≡ true → closes kind (line_body (drop i s)) ≡ false → columns_if kind s i (value_count kind counted) ≡ columns_of kind s on i d
-  columns-both z h k w =
-      let v : 0 < value_count kind counted = omega (arith, z) in
-      rw (row-counted ok counted on, h, k, w, lt-ltb 0 (value_count kind counted) v) (ap (columns_if kind s i) (count-values ok counted v))
-
-  -- the next line has values, and the head line has other cells, whatever else it is
-  pub columns-few : (value_count kind counted ≡ 0 → ⊥) → columns_if kind s i (value_count kind counted) ≡ 0 → 0 ≡ columns_of kind s on i d
-  columns-few z e = go (is_delimiter_row kind on counted && (permitted kind on (line_body (drop i s)) && not (closes kind (line_body (drop i s)))))
-    where
-      go : (t : Bool) → 0 ≡ cond t (columns_if kind s i (length (values kind counted))) 0
-      go true = let v : 0 < value_count kind counted = omega (arith, z) in sym (ap (columns_if kind s i) (sym (count-values ok counted v)) ∙ e)
-      go false = refl
+-- the number that is given is the number itself
+given : (n c : ℕ) → Some c ≡ positive n → (c ≡ n) × (n ≡ 0 → ⊥)
+given n c e = go (eqb n 0) refl e
+  where
+    go : (t : Bool) → eqb n 0 ≡ t → Some c ≡ cond t None (Some n) → (c ≡ n) × (n ≡ 0 → ⊥)
+    go true h k = cc
+    go false h k = (cc, eqb-false n 0 h)
 
 module _ (kind : ℕ → ℕ) where
   -- a head that is found at a line from which the same tables come
-  pub opened-here : (s : List ℕ) (on : Bool) (p : Point) (l i d c : ℕ) → AtLine s (point_in l i 1) → ((line_at s (point_in l i 1)).end ≡ 0 → ⊥) → heads kind on (lines_from s (point_in l i 1)) ≡ heads kind on (lines_from s p)
-      → d ≡ (after s (point_in l i 1)).index → c ≡ columns_of kind s on i d → (c ≡ 0 → ⊥) → Opens kind s on p (record { found = true; line = l; at = i; delimiter = d; columns = c })
-  opened-here s on p l i d c h z e f g k =
-      let q = point_in l i 1 in
-      let x : c ≡ columns_of kind s on i (after s q).index = g ∙ ap (columns_of kind s on i) f in
-      let y = columns-some kind s on q z (λ w. k (x ∙ w)) in
+  pub opened-here : (s : List ℕ) (on : Bool) (p : Point) (w : LineStart) (d c : ℕ) → AtLine s (start_of w) → ((line_at s (start_of w)).end ≡ 0 → ⊥) → heads kind on (lines_from s (start_of w)) ≡ heads kind on (lines_from s p)
+      → d ≡ (after s (start_of w)).index → Some c ≡ positive (columns_of kind s on w.at d) → Opens kind s on p (record { head = w; delimiter = d; columns = c })
+  opened-here s on p w d c h z e f g =
+      let q = start_of w in
+      let n = given (columns_of kind s on w.at d) c g in
+      let x : c ≡ columns_of kind s on w.at (after s q).index = n.0 ∙ ap (columns_of kind s on w.at) f in
+      let y = columns-some kind s on q z (λ v. n.1 (ap (columns_of kind s on w.at) f ∙ v)) in
       record {
         at = h;
         ended = z;

@@ -7,10 +7,10 @@ use Rattle.sheet.proofs.align.align_rest.Given as goal
 
 abbrev pub invariant-loop-i : goal.invariant-loop-i
 invariant-loop-i l =
-    (l.i ≤ length l.s)
+    (l.i ≤ length l.text.bytes.now)
     × (length l.slots ≡ length l.initial.slots)
-    × (l.n + length (aligns_from (kind_in l.kinds) l.s l.i) ≤ length l.slots)
-    × (filled l.n (aligns_from (kind_in l.kinds) l.s l.i) l.slots ≡ filled l.initial.n (aligns_from (kind_in l.kinds) l.s l.initial.i) l.initial.slots)
+    × (l.n + length (aligns_from (kind_in l.text.kinds.now) l.text.bytes.now l.i) ≤ length l.slots)
+    × (filled l.n (aligns_from (kind_in l.text.kinds.now) l.text.bytes.now l.i) l.slots ≡ filled l.initial.n (aligns_from (kind_in l.text.kinds.now) l.text.bytes.now l.initial.i) l.initial.slots)
 
 abbrev pub decreases-loop-i : goal.decreases-loop-i
-decreases-loop-i l = length l.s - l.i
+decreases-loop-i l = length l.text.bytes.now - l.i

@@ -8,4 +8,5 @@ use Rattle.sheet.proofs.align.mark_at.Goals as goal
 pub returns : goal.returns
 returns c =
     let a = c.args in
-    rw c.align_of.ensures (marked_by (kind_in a.kinds.now) (line_from a.s.now a.at) a.at _ c.scan_stretch-e.ensures)
+    let t = a.text.now in
+    rw c.align_of.ensures (marked_by (kind_in t.kinds.now) (line_from t.bytes.now a.at) a.at _ c.scan_stretch-e.ensures)

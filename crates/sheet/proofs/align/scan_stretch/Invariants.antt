@@ -8,8 +8,8 @@ use Rattle.sheet.proofs.align.scan_stretch.Given as goal
 
 abbrev pub invariant-loop-e : goal.invariant-loop-e
 invariant-loop-e l =
-    (l.e.end ≤ length l.s)
-    × (ends_past (kind_in l.kinds) l.e (stretch (kind_in l.kinds) (line_from l.s l.e.end)) ≡ ends_past (kind_in l.kinds) l.initial.e (stretch (kind_in l.kinds) (line_from l.s l.initial.e.end)))
+    (l.e.end ≤ length l.text.bytes.now)
+    × (ends_past (kind_in l.text.kinds.now) l.e (stretch (kind_in l.text.kinds.now) (line_from l.text.bytes.now l.e.end)) ≡ ends_past (kind_in l.text.kinds.now) l.initial.e (stretch (kind_in l.text.kinds.now) (line_from l.text.bytes.now l.initial.e.end)))
 
 abbrev pub decreases-loop-e : goal.decreases-loop-e
-decreases-loop-e l = length l.s - l.e.end
+decreases-loop-e l = length l.text.bytes.now - l.e.end

