@@ -1,18 +1,14 @@
 // Lists the tables of a sheet on standard input, at most 4,096 bytes, and where the text of each cell stands.
 #![tactic(auto)]
 
+use edit_map::resolve_base::{is_entry, is_exit};
 use protocol::input::fill;
-use sheet::calls::Sheet;
 use sheet::sheet;
 use std::io;
 use std::io::Write;
 use tokenizer::event::{Event, Name};
 use tokenizer::kinds::builtin;
-
-// The kinds of events.
-const ENTER: u8 = 1;
-
-const EXIT: u8 = 2;
+use tokenizer::refusal::Refusal;
 
 // Where in a table a row stands.
 #[derive(Clone, Copy)]
@@ -71,21 +67,21 @@ impl Seen<'_> {
 
     // An event more. A cell that is left is listed.
     fn step(&mut self, out: &mut impl Write, e: Event) -> io::Result<()> {
-        match (e.kind, e.name) {
-            (ENTER, Name::GfmTableHead) => self.part = Part::Head,
-            (ENTER, Name::GfmTableBody) => self.part = Part::Body,
-            (ENTER, Name::GfmTableCell) => {
-                self.line = e.line;
-                self.offset = 0;
-                self.length = 0;
-            }
-            (ENTER, Name::GfmTableCellText) => {
-                self.offset = e.index;
-                self.length = 0;
-            }
-            (EXIT, Name::GfmTableCellText) => self.length = e.index.saturating_sub(self.offset),
-            (EXIT, Name::GfmTableCell) => self.cell(out)?,
-            _ => {}
+        if is_entry(Name::GfmTableHead as u8, e) {
+            self.part = Part::Head;
+        } else if is_entry(Name::GfmTableBody as u8, e) {
+            self.part = Part::Body;
+        } else if is_entry(Name::GfmTableCell as u8, e) {
+            self.line = e.line;
+            self.offset = 0;
+            self.length = 0;
+        } else if is_entry(Name::GfmTableCellText as u8, e) {
+            self.offset = e.index;
+            self.length = 0;
+        } else if is_exit(Name::GfmTableCellText as u8, e) {
+            self.length = e.index.saturating_sub(self.offset);
+        } else if is_exit(Name::GfmTableCell as u8, e) {
+            self.cell(out)?;
         }
         Ok(())
     }
@@ -101,22 +97,12 @@ fn letter(alignment: u8) -> char {
     }
 }
 
-// Whether an event enters what has a name.
-fn enters(e: Event, name: u8) -> bool {
-    e.kind == ENTER && e.name == name
-}
-
-// Whether an event leaves what has a name.
-fn leaves(e: Event, name: u8) -> bool {
-    e.kind == EXIT && e.name == name
-}
-
 // The columns of the table that a list begins with: the values of its delimiter row.
 fn columns(results: &[Event]) -> usize {
     results
         .iter()
-        .take_while(|e| !leaves(**e, Name::GfmTableDelimiterRow))
-        .filter(|e| enters(**e, Name::GfmTableDelimiterCellValue))
+        .take_while(|e| !is_exit(Name::GfmTableDelimiterRow as u8, **e))
+        .filter(|e| is_entry(Name::GfmTableDelimiterCellValue as u8, **e))
         .count()
 }
 
@@ -131,7 +117,7 @@ fn list(out: &mut impl Write, results: &[Event], alignments: &[u8]) -> io::Resul
         length: 0,
     };
     for (i, e) in results.iter().enumerate() {
-        if enters(*e, Name::GfmTable) {
+        if is_entry(Name::GfmTable as u8, *e) {
             seen.table(out, *e, columns(&results[i..]))?;
         }
         seen.step(out, *e)?;
@@ -140,8 +126,8 @@ fn list(out: &mut impl Write, results: &[Event], alignments: &[u8]) -> io::Resul
 }
 
 // A refusal.
-fn refused(out: &mut impl Write, n: u8) -> io::Result<()> {
-    writeln!(out, "refused {n}")
+fn refused(out: &mut impl Write, refusal: Refusal) -> io::Result<()> {
+    writeln!(out, "refused {}", refusal.number())
 }
 
 // What is printed for a sheet.
@@ -157,9 +143,9 @@ fn sheet_listed(out: &mut impl Write, text: &[u8]) -> io::Result<()> {
         &mut results,
         &mut alignments,
     ) {
-        Sheet::Refused(n) => refused(out, n),
-        Sheet::Accepted { tables, .. } => {
-            writeln!(out, "tables {tables}")?;
+        Err(refusal) => refused(out, refusal),
+        Ok(counts) => {
+            writeln!(out, "tables {}", counts.tables)?;
             list(out, &results, &alignments)
         }
     }
@@ -171,7 +157,7 @@ pub fn run(rt: &(impl Input + Print)) -> io::Result<()> {
     let n = fill(&mut rt.reader(), &mut text)?;
     let mut out = io::writer(rt);
     if 4096 < n {
-        refused(&mut out, 1)?;
+        refused(&mut out, Refusal::SheetTooLong)?;
     } else {
         sheet_listed(&mut out, &text[..n])?;
     }

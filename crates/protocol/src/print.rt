@@ -88,10 +88,10 @@ pub fn numbers(out: &mut impl Write, list: &[usize]) -> io::Result<()> {
 // An answer's number and counts, zeros where it is refused.
 pub fn number<const N: usize>(
     out: &mut impl Write,
-    answer: Result<impl Into<[usize; N]>, Refusal>,
+    answer: Result<[usize; N], Refusal>,
 ) -> io::Result<()> {
     let (number, counts) = match answer {
-        Ok(counts) => (0, counts.into()),
+        Ok(counts) => (0, counts),
         Err(refusal) => (refusal.number(), [0; N]),
     };
     write!(out, "{number}")?;
@@ -104,7 +104,7 @@ pub fn number<const N: usize>(
 // An answer, and the slots that were lent.
 pub fn answer<T: Slot, const N: usize>(
     out: &mut impl Write,
-    answer: Result<impl Into<[usize; N]>, Refusal>,
+    answer: Result<[usize; N], Refusal>,
     list: &[T],
 ) -> io::Result<()> {
     number(out, answer)?;

@@ -3,7 +3,7 @@
 
 use edit_map::infer::align;
 use protocol::words::Words;
-use protocol::{counts, print, replay};
+use protocol::{print, replay};
 use std::io;
 use std::io::Write;
 use tokenizer::event::Event;
@@ -19,7 +19,7 @@ fn answer(out: &mut impl Write, line: &[u8]) -> Option<io::Result<()>> {
     let mut alignments = [0u8; 256];
     let slots = &mut alignments[..lent];
     let a = align(&list[..n], index, slots);
-    Some(print::answer(out, counts::aligned(a), slots))
+    Some(print::answer(out, a.map(|n| [n]), slots))
 }
 
 fn main(rt: HostRuntime) -> io::Result<()> {

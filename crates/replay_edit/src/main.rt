@@ -3,7 +3,7 @@
 
 use edit_map::edit_map::edit;
 use protocol::words::Words;
-use protocol::{counts, print, replay};
+use protocol::{print, replay};
 use std::io;
 use std::io::Write;
 use tokenizer::event::Event;
@@ -17,7 +17,7 @@ fn edited(
     slots: &mut [Event],
 ) -> io::Result<()> {
     let e = edit(list, edits, pool, slots);
-    print::answer(out, counts::edited(e), slots)?;
+    print::answer(out, e.map(|n| [n]), slots)?;
     print::numbers(out, edits)
 }
 

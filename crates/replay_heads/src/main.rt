@@ -3,7 +3,7 @@
 
 use gfm_table::head;
 use protocol::words::Words;
-use protocol::{counts, print, replay};
+use protocol::{print, replay};
 use std::io;
 use std::io::Write;
 use tokenizer::event::Event;
@@ -22,7 +22,7 @@ fn answer(out: &mut impl Write, line: &[u8]) -> Option<io::Result<()>> {
     let mut raw = [Event::BLANK; 256];
     let slots = &mut raw[..lent];
     let h = head(&sheet[..n], offset, code_indented, lazy, pierced, slots);
-    Some(print::answer(out, counts::head(h), slots))
+    Some(print::answer(out, h.map(<[usize; 3]>::from), slots))
 }
 
 fn main(rt: HostRuntime) -> io::Result<()> {

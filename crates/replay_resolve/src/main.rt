@@ -3,7 +3,7 @@
 
 use edit_map::resolve::resolve;
 use protocol::words::Words;
-use protocol::{counts, print, replay};
+use protocol::{print, replay};
 use std::io;
 use std::io::Write;
 use tokenizer::event::Event;
@@ -18,7 +18,7 @@ fn answer(out: &mut impl Write, line: &[u8]) -> Option<io::Result<()>> {
     let mut results = [Event::BLANK; 256];
     let slots = &mut results[..lent];
     let r = resolve(&list[..n], slots);
-    Some(print::answer(out, counts::resolved(r), slots))
+    Some(print::answer(out, r.map(|n| [n]), slots))
 }
 
 fn main(rt: HostRuntime) -> io::Result<()> {

@@ -3,7 +3,7 @@
 
 use gfm_table::row;
 use protocol::words::Words;
-use protocol::{counts, print, replay};
+use protocol::{print, replay};
 use std::io;
 use std::io::Write;
 use tokenizer::event::Event;
@@ -20,7 +20,7 @@ fn answer(out: &mut impl Write, line: &[u8]) -> Option<io::Result<()>> {
     let mut raw = [Event::BLANK; 256];
     let slots = &mut raw[..lent];
     let r = row(&sheet[..n], offset, lazy, slots);
-    Some(print::answer(out, counts::row(r), slots))
+    Some(print::answer(out, r.map(<[usize; 2]>::from), slots))
 }
 
 fn main(rt: HostRuntime) -> io::Result<()> {

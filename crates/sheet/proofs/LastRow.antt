@@ -7,6 +7,9 @@ use mathlib.Core.List.{List, [], ◌∷◌}
 use Rattle.tokenizer.specs.declared.event.Point.{Point}
 use lib.ListN.{length, drop}
 use Rattle.tokenizer.specs.declared.event.Event.{Event}
+use Rattle.std.specs.Prelude.{Some}
+use Rattle.tokenizer.specs.declared.event.LineStart.{LineStart}
+use Rattle.tokenizer.specs.Points.{start_of}
 use Rattle.tokenizer.specs.Events.{GfmTableHead, leave, point_of}
 use Rattle.tokenizer.specs.Lines.{line_body}
 use Rattle.tokenizer.specs.Places.{Placed, end_of, lines_from, lines_past}
@@ -14,18 +17,16 @@ use Rattle.tokenizer.specs.Moves.{rest_of, line_at, after}
 use Rattle.edit_map.specs.Tables.{BodyRow, last_exit}
 use Rattle.sheet.specs.Walk.{closes, body_rows, heads, rows}
 use Rattle.gfm_table.specs.Heads.{values}
-use Rattle.gfm_table.specs.Places.{point_in}
 use Rattle.sheet.specs.declared.seek.Opening.{Opening}
-use Rattle.sheet.specs.declared.spans.Where.{Where}
 use Rattle.sheet.specs.declared.spans.Tail.{Tail}
 use Rattle.sheet.specs.From.{AtLine, opening_point, Opens, here}
-use Rattle.sheet.specs.Spans.{start_of, last_point, last_stop, EndsBody, FirstTable}
+use Rattle.sheet.specs.Spans.{last_point, last_stop, EndsBody, FirstTable}
 use Rattle.sheet.proofs.From.{past-last, after_line}
 use Rattle.sheet.proofs.Bodies.{next-lines}
 use Rattle.sheet.proofs.Bounds.{aligned-length}
 
 -- the last exit is told by the point before it
-last-exit : (e f : Event) (bs : List BodyRow) → point_of e ≡ point_of f → point_of (last_exit e bs) ≡ point_of (last_exit f bs)
+pub last-exit : (e f : Event) (bs : List BodyRow) → point_of e ≡ point_of f → point_of (last_exit e bs) ≡ point_of (last_exit f bs)
 unfolding last_exit
 last-exit e f [] h = h
 last-exit e f (b ∷ bs) h = refl
@@ -52,21 +53,23 @@ module _ (kind : ℕ → ℕ) where
 
   -- ## A table
 
-  module _ (s : List ℕ) (on : Bool) (w : Where) (o : Opening) (h : (Opens kind) s on (start_of w) o) where
+  module _ (s : List ℕ) (on : Bool) (p : Point) (o : Opening) (h : (Opens kind) s on p o) where
     -- the line of its delimiter row
-    row-point : after s (opening_point o) ≡ point_in (o.line + 1) o.delimiter 1
-    row-point i = record { line = o.line + 1; column = 1; index = sym h.delimiter i; vs = 0 }
+    abbrev pub row_start : LineStart
+    row_start = record { line = o.head.line + 1; at = o.delimiter }
 
-    pub row_line : AtLine s (point_in (o.line + 1) o.delimiter 1)
+    row-point : after s (opening_point o) ≡ start_of row_start
+    row-point i = record { line = o.head.line + 1; column = 1; index = sym h.delimiter i; vs = 0 }
+
+    pub row_line : AtLine s (start_of row_start)
     row_line = subst (AtLine s) row-point (after_line s (opening_point o) h.ended h.at.inside)
 
     -- the table that a head opens comes next
-    pub comes_of : (r : Tail) → EndsBody kind s (point_in (o.line + 1) o.delimiter 1) r
-        → FirstTable kind s on (record { found = true; line = o.line; at = o.at; delimiter = o.delimiter; cells = o.columns; stop = r.stop; next = r.next }) (heads kind on (lines_from s (start_of w)))
+    pub comes_of : (r : Tail) → EndsBody kind s (start_of row_start) r
+        → FirstTable kind s on (Some (record { head = o.head; delimiter = o.delimiter; cells = o.columns; stop = r.stop; next = r.next })) (heads kind on (lines_from s p))
     comes_of r b =
         rw h.tables
         (record {
-          found = refl;
           at = h.at;
           ended = h.ended;
           table = refl;
@@ -74,5 +77,5 @@ module _ (kind : ℕ → ℕ) where
           cells = h.columns ∙ ap (λ (j : ℕ). length (values kind (line_body (drop j s)))) h.delimiter ∙ sym (aligned-length kind (values kind (rest_of s (after s (opening_point o)))));
           stop = b.stop ∙ ap (last_stop kind s) (sym row-point);
           next = b.at;
-          tables = ap (λ (p : Point). rows kind on (lines_past s p)) row-point ∙ b.tables on;
+          tables = ap (λ (q : Point). rows kind on (lines_past s q)) row-point ∙ b.tables on;
         })

@@ -13,7 +13,7 @@ use Rattle.tokenizer.specs.declared.event.Event.{Event}
 use Rattle.tokenizer.specs.Points.{past, next_line}
 use Rattle.tokenizer.specs.Events.{LineEnding, GfmTableHead, GfmTableRow, enter, leave, point_of}
 use Rattle.tokenizer.specs.Slots.{wrote}
-use Rattle.tokenizer.specs.Lines.{Line, end_at, lines}
+use Rattle.tokenizer.specs.Lines.{Line, lines}
 use Rattle.tokenizer.specs.Places.{Placed, placed, end_of, lines_past}
 use Rattle.tokenizer.specs.Moves.{rest_of, line_at, after, Inside}
 use Rattle.tokenizer.proofs.Ends.{body-inside, stop-rest, after-inside}
@@ -31,8 +31,8 @@ use Rattle.sheet.specs.From.{here}
 use Rattle.sheet.specs.Spans.{last_point, last_stop}
 use Rattle.sheet.specs.Placing.{point_at, written_at, AtEnd, Few, row_events, next_events, heads_events, rows_after, table_at}
 use Rattle.sheet.proofs.Tests.{test}
-use Rattle.sheet.proofs.Stops.{rows_same, stop-stop, stop-after, stop-past, stop-line, stop-here, end-here}
-use Rattle.sheet.proofs.From.{past-last, past_more}
+use Rattle.sheet.proofs.Stops.{rows_same, stop-stop, stop-after, stop-past, stop-line, stop-here}
+use Rattle.sheet.proofs.From.{past-last}
 use Rattle.sheet.proofs.Bodies.{next-lines}
 use Rattle.sheet.proofs.LastRow.{last_row}
 
@@ -54,14 +54,10 @@ module _ (k : ℕ) (a x : Event) (r n zs : List Event) where
   length_twice = omega (arith, length-append r (n ++ (x ∷ [])), length-append n (x ∷ []))
 
 -- two, and others
-wrote_pair : (k : ℕ) (a b : Event) (r zs : List Event) → wrote k (a ∷ b ∷ r) zs ≡ wrote (k + 2) r (set (set zs k a) (k + 1) b)
+pub wrote_pair : (k : ℕ) (a b : Event) (r zs : List Event) → wrote k (a ∷ b ∷ r) zs ≡ wrote (k + 2) r (set (set zs k a) (k + 1) b)
 wrote_pair k a b r zs = wrote-more k a (b ∷ r) zs ∙ wrote-more (k + 1) b r (set zs k a) ∙ ap (λ (j : ℕ). wrote j r (set (set zs k a) (k + 1) b)) (omega arith)
 
 module _ (s : List ℕ) where
-  -- the start of the next line
-  pub below_at : (w : Written) → AtEnd s w → w.at + end_at (drop w.at s) ≡ (after s (point_at w)).index
-  below_at w h = omega (arith, ap {B = ℕ} length h.rest, end-here s (point_at w) h.rest h.inside)
-
   -- the end of a line
   pub at-end : (p : Point) (k : ℕ) → Inside s p → AtEnd s (written_at (end_of (here s p)) k)
   at-end p k h = record { inside = body-inside s p h; rest = stop-rest s p }
@@ -163,16 +159,17 @@ module _ (kind : ℕ → ℕ) (s : List ℕ) where
         last_least (leave GfmTableRow (past q m.body)) (record { at = q; line = m }) (next_line (past q m.body) m.end) ms (omega arith),
       )))
 
-  stop_least : (p : Point) → (end_of (here s p)).index ≤ last_stop kind s p
+  pub past-onward : (p : Point) (e : Event) (l : Placed) → e.index ≤ (end_of (here s p)).index → e.index ≤ (last_exit e (body_rows kind l (lines_past s p))).index
   unfolding last_exit body_rows
-  stop_least p =
-      let e = leave GfmTableHead (end_of (here s p)) in
-      let f : List Placed → ℕ = λ ls. (last_exit e (body_rows kind (here s p) ls)).index in
-      test (eqb (line_at s p).end 0) (λ z. let g = ap f (past-last s p (eqb-true (line_at s p).end 0 z)) in omega (arith, g))
-      (λ z. let g = ap f (past_more s p (eqb-false (line_at s p).end 0 z)) in omega (arith, g, last_least e (here s p) (after s p) (lines (drop (after s p).index s)) (omega arith)))
+  past-onward p e l h =
+      test (eqb (line_at s p).end 0) (λ b. rw b (omega arith))
+      (λ b. rw b (last_least e l (after s p) (lines (drop (after s p).index s)) (omega (arith, h))))
+
+  stop_least : (p : Point) → (end_of (here s p)).index ≤ last_stop kind s p
+  stop_least p = past-onward p (leave GfmTableHead (end_of (here s p))) (here s p) (omega arith)
 
   -- the rows after the end of a line are those after the line
-  stop-rows : (p : Point) → rows_at (end_of (here s p)) ≡ rows_at p
+  pub stop-rows : (p : Point) → rows_at (end_of (here s p)) ≡ rows_at p
   stop-rows p = ap (body_rows kind (here s (end_of (here s p)))) (stop-past s p) ∙ rows_same kind (here s (end_of (here s p))) (here s p) (lines_past s p) (stop-line s p)
 
   pub stop_rows_after : (p : Point) → rows_after kind s (end_of (here s p)) ≡ rows_after kind s p

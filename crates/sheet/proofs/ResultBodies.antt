@@ -1,19 +1,18 @@
 -- The result events of a table's body rows, written one row after the other.
 -- Assumes nothing.
-use Prim.Native.Nat.{ℕ, zero, suc, ◌+◌, ◌≤◌, ◌<◌}
+use Prim.Native.Nat.{ℕ, ◌+◌, ◌≤◌, ◌<◌}
 use mathlib.Core.Path.{◌≡◌, refl, ap, sym, ◌∙◌}
 use mathlib.Core.List.{List, [], ◌∷◌, ◌++◌, append_assoc}
 use mathlib.Core.Bool.{Bool, true, false}
 use native.Mathlib.Omega.{arith}
 use borrow.Author.Tests.{lt-ltb, le-ltb, eq-eqb, ne_eqb, eqb-true, eqb-false}
 use lib.Dec.{eqb, ltb}
-use lib.ListN.{length, drop, length-append}
+use lib.ListN.{length, length-append}
 use Rattle.tokenizer.specs.declared.event.Point.{Point}
 use Rattle.tokenizer.specs.declared.event.Event.{Event}
-use Rattle.tokenizer.specs.Points.{past, next_line}
+use Rattle.tokenizer.specs.Points.{past}
 use Rattle.tokenizer.specs.Events.{GfmTable, GfmTableBody, GfmTableHead, GfmTableRow, enter, leave, point_of}
-use Rattle.tokenizer.specs.Lines.{Line, lines}
-use Rattle.tokenizer.specs.Places.{Placed, placed, end_of, lines_past}
+use Rattle.tokenizer.specs.Places.{Placed, end_of, lines_past}
 use Rattle.tokenizer.specs.Slots.{wrote, past_if, event_if}
 use Rattle.tokenizer.specs.Moves.{rest_of, line_at, after, Inside}
 use Rattle.tokenizer.proofs.Ends.{stop-rest, body-inside, after-inside}
@@ -31,39 +30,9 @@ use Rattle.sheet.specs.Placing.{point_at, written_at, AtEnd, Few, table_at}
 use Rattle.sheet.specs.Results.{row_result, break_result, head_result, body_after, opened_rows, rows_result, end_result}
 use Rattle.sheet.proofs.Tests.{test}
 use Rattle.sheet.proofs.From.{past-last, past_more}
-use Rattle.sheet.proofs.Placing.{stop_last_point}
-use Rattle.sheet.proofs.Stops.{rows_same, stop-stop, stop-past, stop-line, stop-here}
-
--- ## The last row
-
-last-same : (e f : Event) (bs : List BodyRow) → point_of e ≡ point_of f → point_of (last_exit e bs) ≡ point_of (last_exit f bs)
-unfolding last_exit
-last-same e f [] h = h
-last-same e f (b ∷ bs) h = refl
-
-module _ (kind : ℕ → ℕ) where
-  -- the last exit is not before the first
-  last-onward : (e : Event) (l : Placed) (p : Point) (ls : List Line) → e.index ≤ p.index → e.index ≤ (last_exit e (body_rows kind l (placed p ls))).index
-  unfolding last_exit body_rows placed
-  last-onward e l p [] h = omega arith
-  last-onward e l p (m ∷ ms) h =
-      test (closes kind m.body) (λ b. rw b (omega arith))
-      (λ b.
-      rw b
-      (let q = past p m.body in
-      let i = last-onward (leave GfmTableRow q) (record { at = p; line = m }) (next_line q m.end) ms (omega arith) in
-      omega (arith, h, i)))
-
-  module _ (s : List ℕ) (p : Point) where
-    past-onward : (e : Event) (l : Placed) → e.index ≤ (past p (rest_of s p)).index → e.index ≤ (last_exit e (body_rows kind l (lines_past s p))).index
-    unfolding last_exit body_rows
-    past-onward e l h =
-        test (eqb (line_at s p).end 0) (λ b. rw b (omega arith))
-        (λ b. rw b (last-onward e l (after s p) (lines (drop (after s p).index s)) (omega (arith, h))))
-
-    -- the body rows after a line are those after its end
-    body_end : (body_after kind) s (past p (rest_of s p)) ≡ body_after kind s p
-    body_end = let e = past p (rest_of s p) in ap (body_rows kind (here s e)) (stop-past s p) ∙ rows_same kind (here s e) (here s p) (lines_past s p) (stop-line s p)
+use Rattle.sheet.proofs.LastRow.{last-exit}
+use Rattle.sheet.proofs.Placing.{past-onward, stop-rows, stop_last_point}
+use Rattle.sheet.proofs.Stops.{stop-stop, stop-here}
 
 -- ## The next row
 
@@ -103,10 +72,6 @@ module _ (kind : ℕ → ℕ) where
   last_row : (s : List ℕ) (p q : Point) (r : BodyRow) (bs : List BodyRow) → body_after kind s p ≡ r ∷ bs → r.row.exit ≡ leave GfmTableRow q → last_point kind s p ≡ point_of (last_exit (leave GfmTableRow q) bs)
   unfolding last_exit
   last_row s p q r bs e f = ap (λ (cs : List BodyRow). point_of (last_exit (leave GfmTableHead (end_of (here s p))) cs)) e ∙ ap (λ (x : Event). point_of (last_exit x bs)) f
-
-positive : (n : ℕ) → (n ≡ 0 → ⊥) → 0 < n
-positive zero z = absurd (z refl)
-positive (suc n) z = omega arith
 
 -- ## One row more
 
@@ -159,15 +124,15 @@ module _ (kind : ℕ → ℕ) where
         let t = row_result kind s Body q in
         let bs = body_after kind s d in
         let r : BodyRow = record { before = line_end (here s p); row = text_row kind q (rest_of s q) } in
-        let a : (body_after kind) s p ≡ r ∷ bs = e ∙ ap (λ (cs : List BodyRow). r ∷ cs) (sym (body_end kind s q)) in
+        let a : (body_after kind) s p ≡ r ∷ bs = e ∙ ap (λ (cs : List BodyRow). r ∷ cs) (sym (stop-rows kind s q)) in
         let g : to_come x ≡ u ++ (v ++ (t ++ resolved_rows bs)) = ap (rows_result f) a ∙ rows_split f r bs in
-        let l : x.at < d.index = omega (arith, positive (line_at s p).end z) in
+        let l : x.at < d.index = omega (arith, z) in
         let n : eqb from d.index ≡ false = ne_eqb from d.index (λ c. omega (arith, c, l, h.onward)) in
         let g' : to_come (behind_row x) ≡ resolved_rows bs = ap (λ (b : Bool). rows_result b bs) n in
         let j : row_slot x ≡ k + 2 + length v = past-if f (k + 2) (enter GfmTableBody q) in
         let m : k + length (to_come x) ≡ row_slot x + length t + length (to_come (behind_row x)) =
         omega (arith, ap (λ (c : List Event). length c) g, ap (λ (c : List Event). length c) g', j, length-append v (t ++ resolved_rows bs), length-append t (resolved_rows bs)) in
-        let o : (last_point kind) s p ≡ last_point kind s d = last_row kind s p d r bs a refl ∙ last-same (leave GfmTableRow d) (leave GfmTableHead (end_of (here s d))) bs (sym (stop-stop s q)) in
+        let o : (last_point kind) s p ≡ last_point kind s d = last_row kind s p d r bs a refl ∙ last-exit (leave GfmTableRow d) (leave GfmTableHead (end_of (here s d))) bs (sym (stop-stop s q)) in
         let w : (zs : List Event) → wrote k (to_come x) zs ≡ wrote (row_slot x + length t) (to_come (behind_row x)) (with_row x zs) =
         λ zs.
         let ys = wrote k u zs in
@@ -222,7 +187,7 @@ module _ (kind : ℕ → ℕ) where
             let d = past q (rest_of s q) in
             let i = ap (λ (c : Point). c.index) (last_row kind s p d _ (body_after kind s q) e refl) in
             let j = past-onward kind s q (leave GfmTableRow d) (here s q) (omega arith) in
-            omega (arith, i, j, h.stops, l, positive (line_at s p).end z)
+            omega (arith, i, j, h.stops, l, z)
             )
 
   -- ## A body
@@ -275,7 +240,7 @@ module _ (kind : ℕ → ℕ) where
               let l = point_of (last_exit (leave GfmTableRow d) (body_after kind s q)) in
               let o : last_at ≡ l = last-at ∙ last_row kind s p d r (body_after kind s q) e refl in
               let j = past-onward kind s q (leave GfmTableRow d) (here s q) (omega arith) in
-              let n : ltb w.at l.index ≡ true = lt-ltb w.at l.index (omega (arith, j, positive (line_at s p).end z)) in
+              let n : ltb w.at l.index ≡ true = lt-ltb w.at l.index (omega (arith, j, z)) in
               ap (resolved_body (leave GfmTableHead p)) e ∙ opened-body (leave GfmTableHead p) r (body_after kind s q)
               ∙ sym ((λ i. rows_result (eq-eqb w.at w.at refl i) (e i) ++ end_result (ltb w.at (o i).index) (o i)) ∙ (λ i. opened_rows (r ∷ body_after kind s q) ++ end_result (n i) l))
 
@@ -313,7 +278,7 @@ module _ (kind : ℕ → ℕ) where
         sym (
         ap (λ (es : List Event). enter GfmTable p ∷ enter GfmTableHead p ∷ es) (append_assoc t (break_result s p ++ (v ++ x ∷ [])) b)
         ∙ ap (λ (es : List Event). enter GfmTable p ∷ enter GfmTableHead p ∷ (t ++ (break_result s p ++ es))) (append_assoc v (x ∷ []) b)
-        ∙ ap (λ (bs : List BodyRow). enter GfmTable p ∷ enter GfmTableHead p ∷ (t ++ (break_result s p ++ (v ++ x ∷ resolved_body x bs)))) (body_end kind s q)
+        ∙ ap (λ (bs : List BodyRow). enter GfmTable p ∷ enter GfmTableHead p ∷ (t ++ (break_result s p ++ (v ++ x ∷ resolved_body x bs)))) (stop-rows kind s q)
         )
 
     table-length : k + length (head_result kind s p) + length (body_of s at_bottom) ≡ k + length (resolved_table (table_at kind s p))

@@ -3,7 +3,7 @@
 use Prim.Native.Nat.{ℕ, ◌+◌, ◌≤◌, ◌<◌}
 use mathlib.Core.Path.{◌≡◌, ap, sym, ◌∙◌}
 use mathlib.Core.List.{List, [], ◌∷◌, ◌++◌}
-use mathlib.Core.Bool.{Bool, true, false}
+use mathlib.Core.Bool.{Bool}
 use native.Mathlib.Omega.{arith}
 use lib.ListN.{length, set, length-append}
 use Rattle.tokenizer.specs.declared.event.Point.{Point}
@@ -24,6 +24,7 @@ use Rattle.sheet.specs.From.{here, AtLine}
 use Rattle.sheet.specs.declared.tables.Written.{Written}
 use Rattle.sheet.specs.Placing.{point_at, written_at, AtEnd, Few}
 use Rattle.sheet.specs.Results.{row_result, break_result, head_result, end_result}
+use Rattle.sheet.proofs.Placing.{wrote_pair}
 use Rattle.sheet.proofs.Stops.{stop-after, stop-line, stop-here}
 
 -- ## Rows
@@ -55,22 +56,21 @@ two_said k a b zs = sym (wrote-more k a (b ∷ []) zs ∙ wrote_one (k + 1) b (s
 
 -- two events, three stretches of events, and one more
 headed : (k : ℕ) (a b x : Event) (t u v zs : List Event)
-    → set (wrote (k + 1 + 1 + length t + length u) v (wrote (k + 1 + 1 + length t) u (wrote (k + 1 + 1) t (set (set zs k a) (k + 1) b)))) (k + 1 + 1 + length t + length u + length v) x
+    → set (wrote (k + 2 + length t + length u) v (wrote (k + 2 + length t) u (wrote (k + 2) t (set (set zs k a) (k + 1) b)))) (k + 2 + length t + length u + length v) x
     ≡ wrote k (a ∷ b ∷ (t ++ (u ++ (v ++ x ∷ [])))) zs
 headed k a b x t u v zs =
-    let n = k + 1 + 1 in
+    let n = k + 2 in
     let ys = set (set zs k a) (k + 1) b in
     let ws = wrote (n + length t) u (wrote n t ys) in
     sym (
-    wrote-more k a (b ∷ (t ++ (u ++ (v ++ x ∷ [])))) zs
-    ∙ wrote-more (k + 1) b (t ++ (u ++ (v ++ x ∷ []))) (set zs k a)
+    wrote_pair k a b (t ++ (u ++ (v ++ x ∷ []))) zs
     ∙ wrote-append n t (u ++ (v ++ x ∷ [])) ys
     ∙ wrote-append (n + length t) u (v ++ x ∷ []) (wrote n t ys)
     ∙ wrote-append (n + length t + length u) v (x ∷ []) ws
     ∙ wrote_one (n + length t + length u + length v) x (wrote (n + length t + length u) v ws)
     )
 
-headed_length : (k : ℕ) (a b x : Event) (t u v : List Event) → k + 1 + 1 + length t + length u + length v + 1 ≡ k + length (a ∷ b ∷ (t ++ (u ++ (v ++ x ∷ []))))
+headed_length : (k : ℕ) (a b x : Event) (t u v : List Event) → k + 2 + length t + length u + length v + 1 ≡ k + length (a ∷ b ∷ (t ++ (u ++ (v ++ x ∷ []))))
 headed_length k a b x t u v = omega (arith, length-append t (u ++ (v ++ x ∷ [])), length-append u (v ++ x ∷ []), length-append v (x ∷ []))
 
 module _ (kind : ℕ → ℕ) (s : List ℕ) (p : Point) where
@@ -82,7 +82,7 @@ module _ (kind : ℕ → ℕ) (s : List ℕ) (p : Point) where
 
   module _ (k : ℕ) where
     abbrev pub n₁ : ℕ
-    n₁ = k + 1 + 1 + length (row_result kind s Body p)
+    n₁ = k + 2 + length (row_result kind s Body p)
 
     abbrev pub n₂ : ℕ
     n₂ = n₁ + 2 + length (row_result kind s Delimiter (after s stop))
@@ -94,7 +94,7 @@ module _ (kind : ℕ → ℕ) (s : List ℕ) (p : Point) where
 
     pub head_said : (zs : List Event)
         → (written_at (end_of (here s (after s stop))) (n₂ + 1) ≡ written_at (end_of (here s (after s p))) (k + length (head_result kind s p)))
-        × (set (wrote (n₁ + 2) (row_result kind s Delimiter (after s stop)) (wrote n₁ (break_result s stop) (wrote (k + 1 + 1) (row_result kind s Body p) (set (set zs k (enter GfmTable p)) (k + 1) (enter GfmTableHead p))))) n₂ (leave GfmTableHead (end_of (here s (after s stop)))) ≡ wrote k (head_result kind s p) zs)
+        × (set (wrote (n₁ + 2) (row_result kind s Delimiter (after s stop)) (wrote n₁ (break_result s stop) (wrote (k + 2) (row_result kind s Body p) (set (set zs k (enter GfmTable p)) (k + 1) (enter GfmTableHead p))))) n₂ (leave GfmTableHead (end_of (here s (after s stop)))) ≡ wrote k (head_result kind s p) zs)
     head_said zs = (
       (λ i. written_at (end_of (here s (stop-after s p i))) (head_slots_lem i)),
       headed k (enter GfmTable p) (enter GfmTableHead p) (leave GfmTableHead (end_of (here s (after s stop)))) (row_result kind s Body p) (break_result s stop) (row_result kind s Delimiter (after s stop)) zs
@@ -104,9 +104,6 @@ module _ (kind : ℕ → ℕ) (s : List ℕ) (p : Point) where
     module _ (h : AtLine s p) (z : (line_at s p).end ≡ 0 → ⊥) (l : Few k (head_result kind s p)) where
       pub head_small : n₂ + 1 ≤ 4294967295
       head_small = omega (arith, l, head_slots_lem)
-
-      pub head-row : Inside s p × Few (k + 1 + 1) (row_result kind s Body p)
-      head-row = (h.inside, omega (arith, head_small))
 
       pub head_break : AtEnd s (written_at stop n₁) × (n₁ < 1000000000000)
       head_break = (record { inside = body-inside s p h.inside; rest = stop-rest s p }, omega (arith, head_small))
@@ -123,10 +120,6 @@ break_said s w h zs =
     ∙ (λ i. wrote w.slot (enter LineEnding (sym (stop-here s p h.rest h.inside) i) ∷ leave LineEnding (after s p) ∷ []) zs)
 
 -- ## The end of a table
-
-pub end-small : (go : Bool) (k : ℕ) → k ≤ 4294967295 → past_if go k < 1000000000000
-end-small true k l = omega (arith, l)
-end-small false k l = omega (arith, l)
 
 pub end_said : (go : Bool) (w : Written) (zs : List Event)
     → (written_at (point_at w) (past_if go w.slot + 1) ≡ written_at (point_at w) (w.slot + length (end_result go (point_at w))))

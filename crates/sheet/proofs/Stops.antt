@@ -48,6 +48,3 @@ module _ (s : List ℕ) (p : Point) where
   -- where nothing is left, the line ends at the point
   pub stop-here : rest_of s p ≡ [] → Inside s p → stop ≡ p
   stop-here e h = ap (past p) e ∙ past-none p h.flat
-
-  pub end-here : rest_of s p ≡ [] → Inside s p → end_at (drop p.index s) ≡ (line_at s p).end
-  end-here e h = ap (λ (q : Point). end_at (drop q.index s)) (sym (stop-here e h)) ∙ end-past s p

@@ -1,31 +1,12 @@
 // A request for a sheet, answered in the line protocol: its numbers, and its groups of slots.
 #![tactic(auto)]
 
-ghost use Rattle.std.specs.Prelude.{◌≡◌};
-ghost use Rattle.sheet_protocol.specs.Answers.{sheet_counts};
-
 use protocol::print;
 use protocol::words::Words;
-use sheet::calls::Sheet;
 use sheet::sheet;
 use std::io;
 use std::io::Write;
 use tokenizer::event::Event;
-
-// A sheet's tables, raw events, result events and alignments, or its refusal's number.
-pub fn counts(s: Sheet) -> Result<[usize; 4], u8>
-    ensures { result ≡ sheet_counts s }
-{
-    match s {
-        Sheet::Refused(k) => Err(k),
-        Sheet::Accepted {
-            tables,
-            events,
-            results,
-            alignments,
-        } => Ok([tables, events, results, alignments]),
-    }
-}
 
 // The answer by a table of kinds, with lent slots.
 fn reading(
@@ -38,7 +19,7 @@ fn reading(
     alignments: &mut [u8],
 ) -> io::Result<()> {
     let s = sheet(text, kinds, code_indented, raw, results, alignments);
-    print::answer(out, counts(s), raw)?;
+    print::answer(out, s.map(<[usize; 4]>::from), raw)?;
     print::slots(out, results)?;
     print::slots(out, alignments)
 }

@@ -7,7 +7,7 @@ ghost use Rattle.std.specs.Prelude.{◌≤◌};
 
 use gfm_table::{head, row};
 use protocol::pattern::repeat;
-use protocol::{counts, print};
+use protocol::print;
 use std::io;
 use std::io::Write;
 use tokenizer::event::Event;
@@ -18,18 +18,16 @@ const MOST: usize = 131080;
 
 // A sheet read as a head: its numbers are written, and its events counted.
 fn as_head(out: &mut impl Write, sheet: &[u8], raw: &mut [Event]) -> io::Result<usize> {
-    let answer = counts::head(head(sheet, 0, true, false, false, raw));
-    print::number(out, answer)?;
-    let [events, _, _] = answer.unwrap_or([0; 3]);
-    Ok(events)
+    let answer = head(sheet, 0, true, false, false, raw);
+    print::number(out, answer.map(<[usize; 3]>::from))?;
+    Ok(answer.map_or(0, |c| c.events))
 }
 
 // A sheet read as a row, likewise.
 fn as_row(out: &mut impl Write, sheet: &[u8], raw: &mut [Event]) -> io::Result<usize> {
-    let answer = counts::row(row(sheet, 0, false, raw));
-    print::number(out, answer)?;
-    let [events, _] = answer.unwrap_or([0; 2]);
-    Ok(events)
+    let answer = row(sheet, 0, false, raw);
+    print::number(out, answer.map(<[usize; 2]>::from))?;
+    Ok(answer.map_or(0, |c| c.events))
 }
 
 // What a sheet is read as with n slots: its numbers and its last event. Not inlined, so that one array at a time is on the stack.

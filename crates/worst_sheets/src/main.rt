@@ -6,8 +6,8 @@ ghost use Rattle.std.specs.Prelude.{◌<◌, ◌≤◌, length};
 
 use protocol::pattern::repeat;
 use protocol::print;
+use sheet::calls::SheetCounts;
 use sheet::sheet;
-use sheet_protocol::counts;
 use std::io;
 use std::io::Write;
 use tokenizer::event::Event;
@@ -41,11 +41,11 @@ fn line(out: &mut impl Write, text: &[u8], n: usize, m: usize, k: usize) -> io::
     let raw = &mut raw[..n];
     let results = &mut results[..m];
     let alignments = &mut alignments[..k];
-    let answer = counts(sheet(text, &builtin(), true, raw, results, alignments));
-    let [_, events, resulted, _] = answer.unwrap_or([0; 4]);
-    print::number(out, answer)?;
-    print::event(out, at_or_blank(raw, events.saturating_sub(1)))?;
-    print::event(out, at_or_blank(results, resulted.saturating_sub(1)))?;
+    let answer = sheet(text, &builtin(), true, raw, results, alignments);
+    let counts = answer.unwrap_or(SheetCounts::NONE);
+    print::number(out, answer.map(<[usize; 4]>::from))?;
+    print::event(out, at_or_blank(raw, counts.events.saturating_sub(1)))?;
+    print::event(out, at_or_blank(results, counts.results.saturating_sub(1)))?;
     writeln!(out)
 }
 

@@ -7,5 +7,5 @@ pub returns : goal.returns
 returns c =
     let a = c.args in (
       c.below-b.ensures,
-      rw (c.put-2.ensures, c.behind.ensures, c.break_exit.ensures, c.put.ensures, c.break_entry.ensures, c.below-b.ensures) (break_said a.s.now a.w c.requires.0 a.slots.now),
+      rw (c.put-2.ensures, c.exit.ensures, c.point-2.ensures, c.put.ensures, c.enter.ensures, c.point.ensures, c.below-b.ensures) (break_said a.s.now a.w c.requires.0 a.slots.now),
     )

@@ -6,8 +6,8 @@ use Rattle.sheet.proofs.results.result_rows.Given as goal
 
 abbrev pub invariant-loop-x : goal.invariant-loop-x
 invariant-loop-x l =
-    Good (kind_in l.kinds) l.s l.w.at l.stop l.x
-    × (makes (kind_in l.kinds) l.s l.w.at l.stop l.w l.initial.slots ≡ makes (kind_in l.kinds) l.s l.w.at l.stop l.x l.slots)
+    Good (kind_in l.text.kinds.now) l.text.bytes.now l.w.at l.stop l.x
+    × (makes (kind_in l.text.kinds.now) l.text.bytes.now l.w.at l.stop l.w l.initial.slots ≡ makes (kind_in l.text.kinds.now) l.text.bytes.now l.w.at l.stop l.x l.slots)
 
 abbrev pub decreases-loop-x : goal.decreases-loop-x
 decreases-loop-x l = l.stop - l.x.at

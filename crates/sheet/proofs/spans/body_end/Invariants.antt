@@ -2,18 +2,20 @@
 -- Assumes nothing.
 use Rattle.std.proofs.Common.{◌≡◌, ◌-◌, length, Bool}
 use Rattle.tokenizer.specs.Bytes.{kind_in}
+use Rattle.tokenizer.specs.Points.{start_of}
 use Rattle.tokenizer.specs.Places.{lines_past}
-use Rattle.gfm_table.specs.Places.{point_in}
 use Rattle.sheet.specs.Walk.{rows}
 use Rattle.sheet.specs.From.{AtLine}
 use Rattle.sheet.specs.Spans.{last_point}
 use Rattle.sheet.proofs.spans.body_end.Given as goal
 
-abbrev pub invariant-loop-stop : goal.invariant-loop-stop
-invariant-loop-stop l =
-    AtLine l.s (point_in l.l l.i 1)
-    × (last_point (kind_in l.kinds) l.s (point_in l.l l.i 1) ≡ last_point (kind_in l.kinds) l.s (point_in l.line l.at 1))
-    × ((on : Bool) → rows (kind_in l.kinds) on (lines_past l.s (point_in l.l l.i 1)) ≡ rows (kind_in l.kinds) on (lines_past l.s (point_in l.line l.at 1)))
+abbrev pub invariant-loop-row : goal.invariant-loop-row
+invariant-loop-row l =
+    let kind = kind_in l.text.kinds.now in
+    let s = l.text.bytes.now in
+    AtLine s (start_of l.row)
+    × (last_point kind s (start_of l.row) ≡ last_point kind s (start_of l.fn.from))
+    × ((on : Bool) → rows kind on (lines_past s (start_of l.row)) ≡ rows kind on (lines_past s (start_of l.fn.from)))
 
-abbrev pub decreases-loop-stop : goal.decreases-loop-stop
-decreases-loop-stop l = length l.s - l.i
+abbrev pub decreases-loop-row : goal.decreases-loop-row
+decreases-loop-row l = length l.text.bytes.now - l.row.at

@@ -7,8 +7,8 @@ use Rattle.sheet.proofs.tables.raw_body.Given as goal
 
 abbrev pub invariant-loop-x : goal.invariant-loop-x
 invariant-loop-x l =
-    Good (kind_in l.kinds) l.s l.stop l.x
-    × (makes (kind_in l.kinds) l.s l.fn.w l.fn.slots ≡ makes (kind_in l.kinds) l.s l.x l.slots)
+    Good (kind_in l.text.kinds.now) l.text.bytes.now l.stop l.x
+    × (makes (kind_in l.text.kinds.now) l.text.bytes.now l.fn.w l.fn.slots ≡ makes (kind_in l.text.kinds.now) l.text.bytes.now l.x l.slots)
 
 abbrev pub decreases-loop-x : goal.decreases-loop-x
-decreases-loop-x l = length l.s - l.x.at
+decreases-loop-x l = length l.text.bytes.now - l.x.at
