@@ -42,8 +42,7 @@ impl Kind {
             3 => Kind::Pipe,
             4 => Kind::Backslash,
             5 => Kind::Hyphen,
-            6 => Kind::Colon,
-            _ => unreachable!(),
+            _ => Kind::Colon,
         }
     }
 

@@ -22,12 +22,11 @@ impl Text<'_> {
     pub fn line_stop(&self, at: usize) -> usize
         ensures { result ≡ at + length (line_body (drop at self.now.bytes.now)) }
     {
-        for i in at..self.bytes.len() {
-            if self.kind_at(i) == Kind::End {
-                return i;
-            }
+        let mut i = at;
+        while self.kind_at(i) != Kind::End {
+            i += 1;
         }
-        at.max(self.bytes.len())
+        i
     }
 
     // Where a run of bytes of one kind ends, from a place on.
@@ -35,12 +34,11 @@ impl Text<'_> {
         requires { kind_number k ≡ 2 → ⊥ }
         ensures { result ≡ at + length (run_of (kind_in self.now.kinds.now) (kind_number k) (line_body (drop at self.now.bytes.now))) }
     {
-        for i in at..self.bytes.len() {
-            if self.kind_at(i) != k {
-                return i;
-            }
+        let mut i = at;
+        while self.kind_at(i) == k {
+            i += 1;
         }
-        at.max(self.bytes.len())
+        i
     }
 
     // Where a run of spaces and tabs ends, from a place on.
