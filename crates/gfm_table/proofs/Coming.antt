@@ -70,6 +70,7 @@ module _ {kind : ℕ → ℕ} (ok : Reads kind) (s : List ℕ) (p : Point) (h : 
     where
       f : Front kind s p.index here
       f = goes ok s p.index here refl (λ z. omega (arith, z, e))
+
       go : (t : Part) → pieces_of kind t (rest_of s p) ≡ record { name = 1; text = indent kind (rest_of s p) } ∷ pieces_of kind t (rest_of s (past p (indent kind (rest_of s p))))
       go Head = (M.first_space ok s p here f h e).pieces
       go Delimiter = (F.first_space ok s p here f h e).pieces
@@ -80,6 +81,7 @@ module _ {kind : ℕ → ℕ} (ok : Reads kind) (s : List ℕ) (p : Point) (h : 
     where
       f : Front kind s p.index here
       f = goes ok s p.index here refl (λ z. omega (arith, z, e))
+
       go : (t : Part) → pieces_of kind t (rest_of s p) ≡ record { name = 10; text = get_or s p.index 0 ∷ [] } ∷ pieces_of kind t (rest_of s (past p (get_or s p.index 0 ∷ [])))
       go Head = (M.first_divider ok s p here f h e).pieces
       go Delimiter = (F.first_divider ok s p here f h e).pieces

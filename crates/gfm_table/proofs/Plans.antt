@@ -23,7 +23,6 @@ use Rattle.gfm_table.specs.declared.stream.Cursor.TheVariants.{Begin, Enter}
 use Rattle.gfm_table.specs.Rows.{Piece, joins, on_pieces, row_name, odd_after, row_pieces, delimiter_name, delimiter_pieces, passed, all_both, raw_row}
 use Rattle.gfm_table.specs.Heads.{head_refusal}
 use Rattle.gfm_table.specs.Raw.{row_at, head_events}
-use Rattle.gfm_table.specs.Answers.{opened_at}
 use Rattle.gfm_table.specs.Stream.{gave, Good}
 use Rattle.gfm_table.proofs.Answers.{refused_end}
 use Rattle.gfm_table.proofs.Coming.{row_from, broken, delimited, coming, gave_slots}

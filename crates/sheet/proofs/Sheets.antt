@@ -3,7 +3,7 @@
 use Prim.Native.Nat.{ℕ, ◌≤◌}
 use mathlib.Core.Path.{◌≡◌, refl, ap, sym, ◌∙◌}
 use mathlib.Core.Bool.{Bool, true, false, cond}
-use mathlib.Core.List.{List, []}
+use mathlib.Core.List.{List}
 use native.Mathlib.Omega.{arith}
 use borrow.Author.Tests.{eq-eqb, ne_eqb, eqb-true, eqb-false, ltb-false, le-leb}
 use lib.Dec.{eqb, ltb}
@@ -14,32 +14,32 @@ use Rattle.tokenizer.specs.declared.event.Event.{Event}
 use Rattle.tokenizer.specs.declared.refusal.Refusal.{Refusal}
 use Rattle.tokenizer.specs.Bytes.{kinds_refusal}
 use Rattle.tokenizer.specs.Events.{blank_event}
-use Rattle.tokenizer.specs.Slots.{slots_of, cleared, cleared_from, wrote}
+use Rattle.tokenizer.specs.Slots.{cleared, cleared_from, wrote}
 use Rattle.tokenizer.proofs.Answering.{ok-answered, err-answered}
 use Rattle.tokenizer.proofs.Blanks.{slots_none, cleared_all}
-use Rattle.tokenizer.proofs.Writing.{wrote-length, wrote_cleared}
+use Rattle.tokenizer.proofs.Writing.{wrote_cleared}
 use Rattle.gfm_table.specs.Calls.{or_else, slot_refusal}
 use Rattle.sheet.specs.declared.calls.SheetCounts.{SheetCounts}
 use Rattle.sheet.specs.Walk.{Found, raw_of, resolved_of, aligned_of}
 use Rattle.sheet.specs.Aligning.{zeros}
 use Rattle.sheet.specs.Writing.{counts_of, aligned_from}
-use Rattle.sheet.specs.Calls.{long_refusal, result_refusal, align_refusal, sheet_tables, sheet_number, sheet_of, sheet_raw, sheet_results, sheet_aligned}
+use Rattle.sheet.specs.Calls.{long_refusal, result_refusal, sheet_tables, sheet_number, sheet_of, sheet_raw, sheet_results, sheet_aligned}
 use Rattle.sheet.proofs.Slots.{cleared-zeros, aligned-kept}
 
 -- a question that none before it answers no, and that it does not either
 or-0 : (a b : ℕ) → or_else a b ≡ 0 → (a ≡ 0) × (b ≡ 0)
 or-0 a b = go (eqb a 0) refl
-    where
-      go : (t : Bool) → eqb a 0 ≡ t → cond t b a ≡ 0 → (a ≡ 0) × (b ≡ 0)
-      go true e h = (eqb-true a 0 e, h)
-      go false e h = absurd (eqb-false a 0 e h)
+  where
+    go : (t : Bool) → eqb a 0 ≡ t → cond t b a ≡ 0 → (a ≡ 0) × (b ≡ 0)
+    go true e h = (eqb-true a 0 e, h)
+    go false e h = absurd (eqb-false a 0 e h)
 
 enough : (q n m : ℕ) → (q ≡ 0 → ⊥) → cond (ltb n m) q 0 ≡ 0 → m ≤ n
 enough q n m z = go (ltb n m) refl
-    where
-      go : (t : Bool) → ltb n m ≡ t → cond t q 0 ≡ 0 → m ≤ n
-      go true e h = absurd (z h)
-      go false e h = ltb-false n m e
+  where
+    go : (t : Bool) → ltb n m ≡ t → cond t q 0 ≡ 0 → m ≤ n
+    go true e h = absurd (z h)
+    go false e h = ltb-false n m e
 
 module _ (s t : List ℕ) (on : Bool) (ys ms : List Event) (ks : List ℕ) where
   abbrev n : ℕ

@@ -9,7 +9,7 @@ use native.Mathlib.Omega.{arith}
 use borrow.Author.Tests.{le-leb, lt-leb, leb-true}
 use lib.Dec.{leb}
 use borrow.Rule.Slice.PartMut.{mid_of, put_mid}
-use lib.ListN.{length, take, drop, set, take-append-drop, length-take, length-append, length-drop, drop_of_length-le, length-replicate}
+use lib.ListN.{length, take, drop, set, take-append-drop, length-take, length-append, length-drop, drop_of_length-le}
 use lib.Seq.{take-suc-set, append_snoc, drop-set-lt, drop-drop, take_at, drop_at, take_all}
 use Rattle.sheet.specs.Walk.{Found, aligned_of}
 use Rattle.tokenizer.specs.Slots.{cleared}

@@ -5,7 +5,7 @@ use mathlib.Core.Path.{◌≡◌, ap, sym, ◌∙◌}
 use mathlib.Core.Bool.{Bool, ◌||◌}
 use mathlib.Core.List.{List}
 use lib.ListN.{length}
-use Rattle.std.specs.Prelude.{Result, Ok, Err}
+use Rattle.std.specs.Prelude.{Result}
 use Rattle.tokenizer.specs.declared.refusal.Refusal.{Refusal}
 use Rattle.tokenizer.specs.Bytes.{kind_of, built_in, kind_in}
 use Rattle.tokenizer.proofs.Answering.{ok-answered, err-answered, answered-ok, answered-err}
@@ -41,8 +41,7 @@ returns-in-Ok c =
     let a = c.args in
     let n = length a.raw.now in
     let z : c.if-lazy.stray ≡ (a.lazy || a.pierced) = elim c.if-lazy.branch [ then-lazy w ↦ rw (w.stray-is, w.if-lazy.true) | else-lazy w ↦ rw (w.stray-is, w.if-lazy.false) ] in
-    let p = ok-answered _ (record { answer = head_counts kind_of a.sheet.now a.offset a.code_indented (a.lazy || a.pierced) n; cursor = Begin (point_at a.sheet.now a.offset) }) _ (planned a.sheet.now a.offset a.code_indented n c.builtin-kinds.ensures z c.in-Ok.ensures) in
-    (
+    let p = ok-answered _ (record { answer = head_counts kind_of a.sheet.now a.offset a.code_indented (a.lazy || a.pierced) n; cursor = Begin (point_at a.sheet.now a.offset) }) _ (planned a.sheet.now a.offset a.code_indented n c.builtin-kinds.ensures z c.in-Ok.ensures) in (
       rw p.0 (answered-ok _ _ p.1),
       c.fill.ensures ∙ rw (p.0, c.builtin-kinds.ensures) (ap (λ (k : ℕ → ℕ). gave k a.sheet.now n (Begin (point_at a.sheet.now a.offset))) built_is) ∙ head_gives built a.sheet.now a.offset a.code_indented (a.lazy || a.pierced) n p.1,
     )
@@ -52,8 +51,7 @@ returns-in-Err c =
     let a = c.args in
     let n = length a.raw.now in
     let z : c.if-lazy.stray ≡ (a.lazy || a.pierced) = elim c.if-lazy.branch [ then-lazy w ↦ rw (w.stray-is, w.if-lazy.true) | else-lazy w ↦ rw (w.stray-is, w.if-lazy.false) ] in
-    let p = err-answered _ (record { answer = head_counts kind_of a.sheet.now a.offset a.code_indented (a.lazy || a.pierced) n; cursor = Begin (point_at a.sheet.now a.offset) }) _ (planned a.sheet.now a.offset a.code_indented n c.builtin-kinds.ensures z c.in-Err.ensures) in
-    (
+    let p = err-answered _ (record { answer = head_counts kind_of a.sheet.now a.offset a.code_indented (a.lazy || a.pierced) n; cursor = Begin (point_at a.sheet.now a.offset) }) _ (planned a.sheet.now a.offset a.code_indented n c.builtin-kinds.ensures z c.in-Err.ensures) in (
       rw p.0 (answered-err _ _ p.1),
       c.clear_from.ensures ∙ cleared_all a.raw.now ∙ sym (slots_none n) ∙ head_blanks built a.sheet.now a.offset a.code_indented (a.lazy || a.pierced) n p.1,
     )

@@ -5,7 +5,7 @@ use mathlib.Core.Path.{◌≡◌, ap, sym, ◌∙◌}
 use mathlib.Core.Bool.{Bool}
 use mathlib.Core.List.{List}
 use lib.ListN.{length}
-use Rattle.std.specs.Prelude.{Result, Ok, Err}
+use Rattle.std.specs.Prelude.{Result}
 use Rattle.tokenizer.specs.declared.refusal.Refusal.{Refusal}
 use Rattle.tokenizer.specs.Bytes.{kind_of, built_in, kind_in}
 use Rattle.tokenizer.proofs.Answering.{ok-answered, err-answered, answered-ok, answered-err}
@@ -39,8 +39,7 @@ pub returns-in-Ok : goal.returns-in-Ok
 returns-in-Ok c =
     let a = c.args in
     let n = length a.raw.now in
-    let p = ok-answered _ (record { answer = row_counts kind_of a.sheet.now a.offset a.lazy n; cursor = Enter Body (point_at a.sheet.now a.offset) }) _ (planned a.sheet.now a.offset a.lazy n c.builtin-kinds.ensures c.in-Ok.ensures) in
-    (
+    let p = ok-answered _ (record { answer = row_counts kind_of a.sheet.now a.offset a.lazy n; cursor = Enter Body (point_at a.sheet.now a.offset) }) _ (planned a.sheet.now a.offset a.lazy n c.builtin-kinds.ensures c.in-Ok.ensures) in (
       rw p.0 (answered-ok _ _ p.1),
       c.fill.ensures ∙ rw (p.0, c.builtin-kinds.ensures) (ap (λ (k : ℕ → ℕ). gave k a.sheet.now n (Enter Body (point_at a.sheet.now a.offset))) built_is) ∙ row_gives built a.sheet.now a.offset a.lazy n p.1,
     )
@@ -49,8 +48,7 @@ pub returns-in-Err : goal.returns-in-Err
 returns-in-Err c =
     let a = c.args in
     let n = length a.raw.now in
-    let p = err-answered _ (record { answer = row_counts kind_of a.sheet.now a.offset a.lazy n; cursor = Enter Body (point_at a.sheet.now a.offset) }) _ (planned a.sheet.now a.offset a.lazy n c.builtin-kinds.ensures c.in-Err.ensures) in
-    (
+    let p = err-answered _ (record { answer = row_counts kind_of a.sheet.now a.offset a.lazy n; cursor = Enter Body (point_at a.sheet.now a.offset) }) _ (planned a.sheet.now a.offset a.lazy n c.builtin-kinds.ensures c.in-Err.ensures) in (
       rw p.0 (answered-err _ _ p.1),
       c.clear_from.ensures ∙ cleared_all a.raw.now ∙ sym (slots_none n) ∙ row_blanks built a.sheet.now a.offset a.lazy n p.1,
     )

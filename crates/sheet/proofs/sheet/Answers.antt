@@ -1,6 +1,5 @@
 -- `sheet` meets its contract.
 -- Assumes nothing.
-use Rattle.std.proofs.Common.{◌∙◌}
 use Rattle.sheet.proofs.Sheets.{right}
 use Rattle.sheet.proofs.sheet.Goals as goal
 

@@ -4,13 +4,12 @@ use Prim.Native.Nat.{ℕ, ◌+◌, ◌*◌}
 use mathlib.Core.Path.{◌≡◌, refl, ap, sym, ◌∙◌}
 use native.Mathlib.Omega.{arith}
 use lib.ListN.{length}
-use Rattle.std.specs.Prelude.{List, false, Ok, Err}
+use Rattle.std.specs.Prelude.{List, false, Ok}
 use Rattle.std.proofs.lemmas.Result.{err_from_is_err_and}
 use Rattle.tokenizer.specs.declared.event.Point.{Point}
 use Rattle.tokenizer.specs.Bytes.{kind_in}
 use Rattle.tokenizer.specs.Moves.{rest_of, line_at, after}
-use Rattle.tokenizer.specs.Refusals.{answered, refusal_of}
-use Rattle.tokenizer.proofs.Answering.{ok-answered, err-answered, answered-ok, answered-err}
+use Rattle.tokenizer.proofs.Answering.{ok-answered, err-answered, answered-err}
 use Rattle.tokenizer.proofs.Ends.{after-inside}
 use Rattle.gfm_table.specs.declared.heads.Opened.{Opened}
 use Rattle.gfm_table.specs.declared.stream.Cursor.TheVariants.{Begin}

@@ -2,15 +2,13 @@
 -- Assumes nothing.
 use Prim.Native.Nat.{ℕ, ◌+◌, ◌*◌}
 use mathlib.Core.Path.{◌≡◌, ap, sym, ◌∙◌}
-
 use native.Mathlib.Omega.{arith}
 use lib.ListN.{length}
-use Rattle.std.specs.Prelude.{List, false, Ok, Err}
+use Rattle.std.specs.Prelude.{List, false, Ok}
 use Rattle.tokenizer.specs.declared.event.Point.{Point}
 use Rattle.tokenizer.specs.Bytes.{kind_in}
 use Rattle.tokenizer.specs.Moves.{rest_of, Inside}
-use Rattle.tokenizer.specs.Refusals.{answered, refusal_of}
-use Rattle.tokenizer.proofs.Answering.{ok-answered, answered-ok, answered-err}
+use Rattle.tokenizer.proofs.Answering.{ok-answered}
 use Rattle.gfm_table.specs.declared.stream.Part.TheVariants.{Body}
 use Rattle.gfm_table.specs.declared.stream.Cursor.TheVariants.{Enter}
 use Rattle.gfm_table.specs.Rows.{row_pieces}

@@ -1,13 +1,12 @@
 -- `rows::next_piece` meets its contract: the kind of the byte at the place says which piece is next.
 -- Assumes nothing.
-use mathlib.Core.Path.{◌≡◌, refl, ap, sym, ◌∙◌}
+use mathlib.Core.Path.{refl, ap, sym, ◌∙◌}
 use native.Mathlib.Omega.{arith}
-use lib.ListN.{get_or, drop}
+use lib.ListN.{drop}
 use Rattle.std.specs.Prelude.{Some}
 use Rattle.tokenizer.specs.declared.event.Name.TheVariants.{SpaceOrTab, GfmTableCellDivider}
 use Rattle.tokenizer.proofs.Ahead.{goes, ends}
-use Rattle.gfm_table.specs.declared.rows.Placed.{Placed}
-use Rattle.gfm_table.specs.Places.{point_in, next_at}
+use Rattle.gfm_table.specs.Places.{point_in}
 use Rattle.gfm_table.specs.Stream.{pieces_of}
 use Rattle.gfm_table.proofs.Coming.{no_pieces, first-space, first-divider}
 use Rattle.gfm_table.proofs.Placing.{inside-at, byte-column, flat-placed}
