@@ -48,7 +48,7 @@ impl Alignment {
     }
 
     // A value's alignment, by the markers in front and behind.
-    fn of(front: bool, last: bool) -> Self
+    pub fn of(front: bool, last: bool) -> Self
         ensures { result ≡ alignment_of front last }
     {
         match (front, last) {

@@ -1,4 +1,4 @@
-// Heads by their point: what the walk over a sheet goes by.
+// Heads by their point: questions 3 to 7.
 ghost use Rattle.std.specs.Prelude.{◌≡◌};
 ghost use Rattle.tokenizer.specs.Bytes.{kind_in};
 ghost use Rattle.tokenizer.specs.Moves.{Inside};

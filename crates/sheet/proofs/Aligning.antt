@@ -2,7 +2,7 @@
 -- Assumes nothing.
 use Prim.Native.Nat.{ℕ, suc, ◌+◌}
 use mathlib.Core.Path.{◌≡◌, refl, ap, sym, ◌∙◌}
-use mathlib.Core.Bool.{true, false, cond, false≢true, true≢false}
+use mathlib.Core.Bool.{Bool, true, false, cond, false≢true, true≢false}
 use mathlib.Core.List.{List, [], ◌∷◌}
 use native.Mathlib.Omega.{arith}
 use borrow.Author.Tests.{ne_eqb, eqb-true, eqb-false}
@@ -16,11 +16,22 @@ use Rattle.tokenizer.proofs.Ahead.{Front, ends}
 use Rattle.gfm_table.specs.Heads.{untailed, last_byte, unled, untrailed, values, alignment, alignments}
 use Rattle.gfm_table.specs.Delimiters.{stretch, written}
 use Rattle.gfm_table.proofs.Stretches.{cells, cells-split, cells-last, untrailed-more, last-stretch, more-stretch}
+use Rattle.edit_map.specs.AlignSteps.{alignment_of, number_of}
 use Rattle.sheet.specs.declared.align.Ends.{Ends}
-use Rattle.sheet.specs.Aligning.{line_from, aligns_from, ends_over, ends_past, scanned, align_by, Marked}
+use Rattle.sheet.specs.Aligning.{line_from, aligns_from, ends_over, ends_past, scanned, Marked}
 use Rattle.sheet.proofs.Tests.{test}
 
 -- ## The ends of a stretch
+
+-- the number of the alignment that the ends of a value tell, by whether each is a colon
+abbrev align_by : Bool → Bool → ℕ
+align_by f l = cond f (cond l 4 2) (cond l 3 1)
+
+numbered : (f l : Bool) → number_of (alignment_of f l) ≡ align_by f l
+numbered true true = refl
+numbered true false = refl
+numbered false true = refl
+numbered false false = refl
 
 module _ (kind : ℕ → ℕ) where
   unfoldable first_of : ℕ → List ℕ → ℕ
@@ -95,15 +106,15 @@ module _ (kind : ℕ → ℕ) where
     told-empty [] e = refl
     told-empty (b ∷ x) e = rw (first-solid (stretch kind u) b x e)
 
-    told-align : (v : List ℕ) → front ≡ v → align_by (head_kind v) (last_of 1 (stretch kind u)) ≡ alignment kind (untailed kind v)
+    told-align : (v : List ℕ) → front ≡ v → align_by (eqb (head_kind v) 6) (eqb (last_of 1 (stretch kind u)) 6) ≡ alignment kind (untailed kind v)
     unfolding untailed
     told-align [] e = rw (last-blank 1 (stretch kind u) (ap is_empty e))
     told-align (b ∷ x) e = rw (first-solid (stretch kind u) b x e, last-led 1 (stretch kind u) b x e)
 
-    pub marked_by : (i : ℕ) (e : Ends) → e ≡ scanned kind i u → Marked kind u i (record { align = align_by e.first e.last; empty = eqb e.first 1; end = e.end })
+    pub marked_by : (i : ℕ) (e : Ends) → e ≡ scanned kind i u → Marked kind u i (record { align = alignment_of (eqb e.first 6) (eqb e.last 6); empty = eqb e.first 1; end = e.end })
     marked_by i e h =
         rw (h ∙ ends-past 1 1 i (stretch kind u), first_kind (stretch kind u))
-        (record { end = refl; empty = told-empty front refl; align = told-align front refl })
+        (record { end = refl; empty = told-empty front refl; align = numbered _ _ ∙ told-align front refl })
 
 -- ## Scanning
 

@@ -3,6 +3,7 @@ use Rattle.std.specs.Prelude.{ℕ, ◌+◌, ◌-◌, ◌≡◌, List, [], ◌∷
 use Rattle.tokenizer.specs.Lines.{line_body, is_empty}
 use Rattle.gfm_table.specs.Heads.{stretches, trimmed, untrailed, values, alignment, alignments}
 use Rattle.gfm_table.specs.Delimiters.{stretch, written}
+use Rattle.edit_map.specs.AlignSteps.{number_of}
 use Rattle.sheet.specs.declared.align.Ends.{Ends}
 use Rattle.sheet.specs.declared.align.Mark.{Mark}
 
@@ -35,16 +36,12 @@ module _ (kind : ℕ → ℕ) where
   abbrev pub scanned : ℕ → List ℕ → Ends
   scanned i u = ends_past (record { first = 1; last = 1; end = i }) (stretch kind u)
 
--- the alignment that the kinds of a value's first and last byte tell
-abbrev pub align_by : ℕ → ℕ → ℕ
-align_by f l = cond (eqb f 6) (cond (eqb l 6) 4 2) (cond (eqb l 6) 3 1)
-
 module _ (kind : ℕ → ℕ) where
   -- the first stretch of a line, from a place on
   pub record Marked (u : List ℕ) (i : ℕ) (m : Mark) : Type 0 where
     pub end : m.end ≡ i + length (stretch kind u)
     pub empty : m.empty ≡ is_empty (written kind u)
-    pub align : m.align ≡ alignment kind (written kind u)
+    pub align : number_of m.align ≡ alignment kind (written kind u)
 
 -- ## Slots
 

@@ -1,12 +1,14 @@
 // The alignments of a table, written to lent slots.
 ghost use Rattle.std.specs.Prelude.{◌≡◌, cond, ◌≤◌, ◌<◌, ◌+◌, eqb, length};
 ghost use Rattle.tokenizer.specs.Bytes.{kind_in};
-ghost use Rattle.sheet.specs.Aligning.{line_from, aligns_from, line_alignments, ends_over, scanned, align_by, filled, filled_if, Marked};
+ghost use Rattle.sheet.specs.Aligning.{line_from, aligns_from, line_alignments, ends_over, scanned, filled, filled_if, Marked};
 
+use edit_map::infer_step::Alignment;
 use tokenizer::kinds::Kind;
 use tokenizer::text::Text;
 
-// One stretch of a delimiter row: the kinds of its first and last byte that is no whitespace, 1 where there is none, and its end.
+// One stretch of a delimiter row: the kinds of its first and last byte that is no whitespace, 1 where there is none, and its end. Kinds are
+// numbers here: they are only compared, and the definition adds a byte by its number.
 #[derive(Clone, Copy)]
 pub struct Ends {
     pub first: u8,
@@ -17,7 +19,7 @@ pub struct Ends {
 // One stretch of a delimiter row: its alignment, whether it is empty, and its end.
 #[derive(Clone, Copy)]
 pub struct Mark {
-    pub align: u8,
+    pub align: Alignment,
     pub empty: bool,
     pub end: usize,
 }
@@ -64,22 +66,6 @@ pub fn scan_stretch(text: &Text, at: usize) -> Ends
     }
 }
 
-// The alignment that the ends of a value tell.
-pub fn align_of(first: u8, last: u8) -> u8
-    ensures { result ≡ align_by first last }
-{
-    if first == 6 {
-        if last == 6 {
-            return 4;
-        }
-        return 2;
-    }
-    if last == 6 {
-        return 3;
-    }
-    1
-}
-
 // The first stretch from a place on: what it tells.
 pub fn mark_at(text: &Text, at: usize) -> Mark
     requires { (length text.now.bytes.now ≤ 65536) × (at ≤ length text.now.bytes.now) }
@@ -87,7 +73,7 @@ pub fn mark_at(text: &Text, at: usize) -> Mark
 {
     let e = scan_stretch(text, at);
     Mark {
-        align: align_of(e.first, e.last),
+        align: Alignment::of(e.first == Kind::Colon as u8, e.last == Kind::Colon as u8),
         empty: e.first == 1,
         end: e.end,
     }
@@ -117,14 +103,14 @@ pub fn align_rest(text: &Text, at: usize, slots: &mut [u8])
     loop {
         let m = mark_at(text, i);
         if text.kind_at(m.end) == Kind::Pipe {
-            slots[n] = m.align;
+            slots[n] = m.align.number();
             n += 1;
             i = m.end + 1;
         } else {
             if m.empty {
                 return;
             }
-            slots[n] = m.align;
+            slots[n] = m.align.number();
             return;
         }
     }

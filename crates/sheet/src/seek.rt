@@ -1,4 +1,4 @@
-// The next head of a sheet, in plain numbers.
+// The next head of a sheet, by places.
 ghost use Rattle.std.specs.Prelude.{◌≡◌, cond, ◌+◌, ◌≤◌, ◌<◌, length, drop};
 ghost use Rattle.tokenizer.specs.Bytes.{kind_in, kind_of};
 ghost use Rattle.tokenizer.specs.Points.{start_of};

@@ -59,7 +59,8 @@ fn write_tables(
     counts
 }
 
-// The questions of a sheet in their order. Where all are answered yes, its tables are written to the slots.
+// The questions of a sheet in their order. Its tables are written to the slots where those of the table of kinds and question 1 are answered yes;
+// the questions of slots follow.
 pub fn read_tables(
     sheet: &[u8],
     kinds: &[u8],

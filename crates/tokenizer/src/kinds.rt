@@ -30,7 +30,7 @@ const KINDS: [u8; 256] = [
 ];
 
 impl Kind {
-    // The kind that has a number.
+    // The kind that has a number, at most 6. The last case takes any other: a test of its own there cost 3 instructions a byte.
     pub fn numbered(k: u8) -> Kind
         requires { k ≤ 6 }
         ensures { kind_number result ≡ k }

@@ -1,4 +1,4 @@
-// The byte feed of markdown 1.0.0's tokenizer: kinds of bytes, points, events, units, whitespace runs and lines by value, a feed that is lent, and slots of events.
+// The byte feed of markdown 1.0.0's tokenizer: kinds of bytes, points, events, units, whitespace runs and lines by value, a feed that is lent, texts by a table of kinds, slots of events, and refusals.
 #![tactic(auto)]
 
 pub mod event;

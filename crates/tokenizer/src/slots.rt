@@ -1,4 +1,4 @@
-// Slots for events that are lent: one is read, one is written, and all from a place on are cleared.
+// Slots that are lent: an event is read or written, and slots of any type are cleared from a place on.
 ghost use Rattle.std.specs.Prelude.{◌≡◌, ◌<◌, set};
 ghost use Rattle.tokenizer.specs.Slots.{event_at, cleared, nowhere, slot_if, past_if};
 
