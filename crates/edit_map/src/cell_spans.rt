@@ -54,7 +54,7 @@ fn span(text: &Text, from: Stop) -> Stop
 
 // A piece, or the whole text that it begins.
 #[inline(always)]
-pub fn reach(text: &Text, x: Placed) -> Placed
+pub fn reach_from(text: &Text, x: Placed) -> Placed
     requires { (length text.now.bytes.now ≤ 65536) × (x.end ≤ length text.now.bytes.now) × (x.column ≤ 4 * x.end + 1) }
     ensures { result ≡ reach_of (kind_in text.now.kinds.now) text.now.bytes.now x }
 {

@@ -4,7 +4,7 @@ ghost use Rattle.tokenizer.specs.Bytes.{kind_in};
 ghost use Rattle.tokenizer.specs.Events.{number};
 ghost use Rattle.edit_map.specs.CellRows.{cell_of, value_of, step_of, slots_in, first_within, behind, start_of as starts_at, stop_of as stops_at};
 
-use crate::cell_spans::{opens, reach, text_next};
+use crate::cell_spans::{opens, reach_from, text_next};
 use crate::resolve_base::is_text_name;
 use gfm_table::rows::{Reached, RowKind, next_piece};
 use gfm_table::stream::Part;
@@ -78,7 +78,7 @@ pub fn next_step<R: RowKind>(text: &Text, w: Within) -> Option<Step>
 {
     let x = next_piece::<R>(text, w.at, w.column)?;
     let opened = opens(text, w.seen, x.name, x.end as usize);
-    let y = reach(text, x);
+    let y = reach_from(text, x);
     let data = x.name == Name::Data;
     let solid = x.name != Name::SpaceOrTab;
     let mark = is_text_name(x.name as u8);

@@ -16,7 +16,7 @@ pub enum Alignment {
     Center = 4,
 }
 
-// How far a table is read for its alignments.
+// How far a table is read for its alignments. `Failed` is one of these, no `None` around them: each step would match once more.
 #[derive(Clone, Copy, PartialEq, Eq)]
 pub enum Stage {
     Opening,

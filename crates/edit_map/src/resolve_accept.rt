@@ -10,7 +10,7 @@ use crate::resolve_base::{is_entry, is_exit};
 use gfm_table::stream::Part;
 use tokenizer::event::{Event, Name};
 
-// How far a list of raw tables is read.
+// How far a list of raw tables is read. `Refused` is one of these, no `None` around them: each step would match once more.
 #[derive(Clone, Copy, PartialEq, Eq)]
 pub enum Place {
     Start,

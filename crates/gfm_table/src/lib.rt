@@ -52,7 +52,8 @@ pub fn head(
     }
 }
 
-// A body row at an offset: one line of the sheet.
+// A body row at an offset: one line of the sheet. Its answer is given as `head` gives its own: what a function for both would promise is the
+// match written again.
 pub fn row(sheet: &[u8], offset: usize, lazy: bool, raw: &mut [Event]) -> Result<RowCounts, Refusal>
     ensures { (result ≡ row_of kind_of sheet.now offset lazy (length raw.old)) × (raw.new ≡ row_slots kind_of sheet.now offset lazy (length raw.old)) }
 {

@@ -87,7 +87,7 @@ impl Seen<'_> {
     }
 }
 
-// The letter of an alignment.
+// The letter of an alignment, by its number: a slot of an alignment is a byte.
 fn letter(alignment: u8) -> char {
     match alignment {
         2 => 'L',

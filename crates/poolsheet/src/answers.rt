@@ -17,7 +17,7 @@ pub fn number<T: Drop>(a: Result<T, Refusal>) -> u8
     }
 }
 
-// Events, end and cells.
+// Events, end and cells. There is one such function for each answer: a generic one would promise `From`'s own promise and N zeros, no plainer.
 pub fn head_counts(a: Result<HeadCounts, Refusal>) -> [usize; 3]
     ensures { result ≡ counts_of_head a }
 {

@@ -6,7 +6,8 @@ ghost use Rattle.protocol.specs.Kept.{kept_count, kept_text};
 use std::io;
 use std::io::Read;
 
-// Reads until the buffer is full or the input ends, and tells how many bytes there are.
+// Reads until the buffer is full or the input ends, and tells how many bytes there are. A short read is repeated; std has no call that stops
+// at a full buffer.
 pub fn fill(input: &mut impl Read, text: &mut [u8]) -> io::Result<usize>
     ensures { IfOk result (λ n. IsPrefixLen n text.new) }
 {

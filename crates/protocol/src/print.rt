@@ -23,18 +23,7 @@ impl Slot for Event {
     ghost blank = { is_blank };
 
     fn is_blank(&self) -> bool {
-        matches!(
-            *self,
-            Event {
-                kind: 0,
-                name: 0,
-                line: 0,
-                column: 0,
-                index: 0,
-                vs: 0,
-                link: 0
-            }
-        )
+        *self == Event::BLANK
     }
 
     fn write(&self, out: &mut impl Write) -> io::Result<()> {

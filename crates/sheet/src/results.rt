@@ -42,7 +42,7 @@ pub fn result_break(s: &[u8], w: Written, slots: &mut [Event]) -> Written
     b
 }
 
-// A row: its entry, its cells and its exit.
+// A row: its entry, its cells and its exit. `raw_row` is another, for pieces: what one over both would promise names both writers.
 pub fn result_row<R: RowKind>(
     text: &Text,
     from: LineStart,

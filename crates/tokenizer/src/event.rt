@@ -165,12 +165,7 @@ impl Event {
     {
         Event {
             kind: 2,
-            name: name as u8,
-            line: p.line,
-            column: p.column,
-            index: p.index,
-            vs: p.vs,
-            link: 0,
+            ..Self::enter(name, p)
         }
     }
 }

@@ -125,7 +125,7 @@ impl Feed {
         *self = self.consume(s);
     }
 
-    // A name is entered here.
+    // A name is entered here. This and the next are two by the tokenizer's own names: one with the kind is no plainer.
     pub fn enter(self, s: &[u8], name: Name) -> Event
         ensures { result ≡ enter (number name) (back s.now self.point) }
     {

@@ -24,7 +24,8 @@ pub fn space_ahead(f: Feed, left: usize) -> bool
     left != 0 && is_space(f.current)
 }
 
-// An attempt by value: the feed behind at least `min` and at most `max` units of whitespace, where there are so many.
+// An attempt by value: the feed behind at least `min` and at most `max` units of whitespace, where there are so many. The feed moves by
+// units, so what is left of `max` is counted by hand.
 pub fn space_or_tab_attempt(s: &[u8], f: Feed, min: usize, max: usize) -> Option<Feed>
     requires { Reading s.now f }
     ensures { result ≡ attempt_of s.now min max f.point }

@@ -20,7 +20,7 @@ pub fn put(slots: &mut [Event], i: usize, e: Event)
     }
 }
 
-// A place past every slot.
+// A place past every slot. No `Option`: `put` passes it over, so that writing a step has no branches.
 const NOWHERE: usize = 18446744073709551615;
 
 // The place of a slot that is written, or one past all slots where none is.

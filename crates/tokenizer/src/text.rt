@@ -6,7 +6,8 @@ ghost use Rattle.tokenizer.specs.Moves.{ahead_of};
 use crate::event::Point;
 use crate::kinds::{Kind, kind_in};
 
-// A sheet's bytes, with a table of kinds that passes.
+// A sheet's bytes, with a table of kinds that passes. That there are at most 65,536 bytes is no part of it: a text of any length is made before
+// question 1 is asked.
 #[derive(Clone, Copy)]
 pub struct Text<'a> {
     pub bytes: &'a [u8],
