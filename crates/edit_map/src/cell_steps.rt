@@ -12,7 +12,7 @@ use tokenizer::event::{LineStart, Name, Point};
 use tokenizer::slots::{past_if, slot_if};
 use tokenizer::text::Text;
 
-// Inside a row's cell: the place, the column there, the next slot, whether a piece other than whitespace came, and whether the cell waits for a mark.
+// Inside a row's cell: the place, the column there, the next slot, which goes on past the slots where they are too few, whether a piece other than whitespace came, and whether the cell waits for a mark.
 #[derive(Clone, Copy)]
 pub struct Within {
     pub at: u32,

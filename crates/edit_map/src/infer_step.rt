@@ -141,7 +141,7 @@ impl Aligning {
         self.still(if is_entry(n, e) { yes } else { no }, false, e)
     }
 
-    // One record more.
+    // One record more: the stages are those over which the definition matches.
     pub fn step(self, e: Event) -> Self
         ensures { result ≡ align_step self e }
     {

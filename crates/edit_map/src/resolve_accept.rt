@@ -159,7 +159,7 @@ fn closed(e: Event) -> Reading
     }
 }
 
-// One record at a place where nothing is to be left.
+// One record at a place where nothing is to be left: the places are those over which the definition matches.
 fn read_in(l: Place, p: Part, e: Event) -> Reading
     ensures { result ≡ read_in l p e }
 {

@@ -203,7 +203,7 @@ fn copy_turn(m: Mode, this: Event) -> Turn
 }
 
 impl Mode {
-    // One record, and the mode after it.
+    // One record, and the mode after it: the states are 01's, and the definition matches over the same ones.
     pub fn turn(self, this: Event, next: Event, look: Look) -> Turn
         ensures { result ≡ turn_of self this next look.ahead look.solid }
     {

@@ -32,7 +32,8 @@ pub struct Placed {
     pub column: u32,
 }
 
-// Where the writing of a row's pieces stands: the place, the column there, and the slot of the next event.
+// Where the writing of a row's pieces stands: the place, the column there, and the slot of the next event, which goes on past the slots where
+// they are too few.
 #[derive(Clone, Copy)]
 pub struct Reached {
     pub at: u32,
@@ -159,7 +160,7 @@ impl RowKind for DelimiterRow {
     }
 }
 
-// The next piece of a row, if one is left.
+// The next piece of a row, if one is left. The place and the column are no struct here: callers have them in records of their own.
 pub fn next_piece<R: RowKind>(text: &Text, at: u32, column: u32) -> Option<Placed>
     requires { (length text.now.bytes.now ≤ 65536) × (at ≤ length text.now.bytes.now) × (column ≤ 4 * at + 1) }
     ensures { result ≡ next_at at column (pieces_of (kind_in text.now.kinds.now) R.part (line_body (drop at text.now.bytes.now))) }

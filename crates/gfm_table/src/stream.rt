@@ -133,7 +133,7 @@ pub fn step_ended(s: &[u8], part: Part, p: Point) -> Stepped
     }
 }
 
-// The next event, and the cursor after it. At the end blank events come for ever, so that slots behind the last event are blank by themselves.
+// The next event, and the cursor after it: the cursor's states are 01's. At the end blank events come for ever, so that slots behind the last event are blank by themselves.
 pub fn step(text: &Text, c: Cursor) -> Stepped
     requires { Good text.now.bytes.now c }
     ensures { result ≡ step_of (kind_in text.now.kinds.now) text.now.bytes.now c }

@@ -16,7 +16,8 @@ use tokenizer::lines::line_end;
 use tokenizer::slots::put;
 use tokenizer::text::Text;
 
-// Where the writing has come to: the line, the place and the column there, and the next slot.
+// Where the writing has come to: the line, the place and the column there, and the next slot, which goes on past the slots where they are too
+// few.
 #[derive(Clone, Copy)]
 pub struct Written {
     pub line: u32,
