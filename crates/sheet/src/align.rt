@@ -99,20 +99,17 @@ pub fn align_rest(text: &Text, at: usize, slots: &mut [u8])
     ensures { slots.new ≡ filled 0 (aligns_from (kind_in text.now.kinds.now) text.now.bytes.now at) slots.old }
 {
     let mut i = at;
-    let mut n: usize = 0;
-    loop {
+    for slot in slots.iter_mut() {
         let m = mark_at(text, i);
-        if text.kind_at(m.end) == Kind::Pipe {
-            slots[n] = m.align.number();
-            n += 1;
-            i = m.end + 1;
-        } else {
-            if m.empty {
-                return;
-            }
-            slots[n] = m.align.number();
+        let last = text.kind_at(m.end) != Kind::Pipe;
+        if last && m.empty {
             return;
         }
+        *slot = m.align.number();
+        if last {
+            return;
+        }
+        i = m.end + 1;
     }
 }
 
