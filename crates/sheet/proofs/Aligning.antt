@@ -8,17 +8,21 @@ use native.Mathlib.Omega.{arith}
 use borrow.Author.Tests.{ne_eqb, eqb-true, eqb-false}
 use lib.Dec.{eqb}
 use lib.ListN.{length, drop}
+use denote.Enum.Bare.{sameb}
+use Rattle.tokenizer.specs.contracts.kinds.Kind.{the_type}
+use Rattle.tokenizer.specs.declared.kinds.Kind.TheVariants.{Space, Colon}
 use Rattle.tokenizer.specs.declared.event.Point.{Point}
 use Rattle.tokenizer.specs.Bytes.{Reads}
 use Rattle.tokenizer.specs.Moves.{ahead_of}
 use Rattle.tokenizer.specs.Lines.{is_empty, blank, unindented}
 use Rattle.tokenizer.proofs.Ahead.{Front, ends}
+use Rattle.tokenizer.proofs.SameKinds.{same-numbers}
 use Rattle.gfm_table.specs.Heads.{untailed, last_byte, unled, untrailed, values, alignment, alignments}
 use Rattle.gfm_table.specs.Delimiters.{stretch, written}
 use Rattle.gfm_table.proofs.Stretches.{cells, cells-split, cells-last, untrailed-more, last-stretch, more-stretch}
 use Rattle.edit_map.specs.AlignSteps.{alignment_of, number_of}
 use Rattle.sheet.specs.declared.align.Ends.{Ends}
-use Rattle.sheet.specs.Aligning.{line_from, aligns_from, ends_over, ends_past, scanned, Marked}
+use Rattle.sheet.specs.Aligning.{EndNumbers, end_numbers, line_from, aligns_from, ends_over, ends_past, scanned, Marked}
 use Rattle.sheet.proofs.Tests.{test}
 
 -- ## The ends of a stretch
@@ -44,11 +48,11 @@ module _ (kind : ℕ → ℕ) where
 
   ends-past : (f l i : ℕ) (t : List ℕ) → ends_past kind (record { first = f; last = l; end = i }) t ≡ record { first = first_of f t; last = last_of l t; end = i + length t }
   unfolding ends_past first_of last_of
-  ends-past f l i [] = ap {B = Ends} (λ n. record { first = f; last = l; end = n }) (let e : i ≡ i + 0 = omega arith in e)
+  ends-past f l i [] = ap {B = EndNumbers} (λ n. record { first = f; last = l; end = n }) (let e : i ≡ i + 0 = omega arith in e)
   ends-past f l i (b ∷ t) =
       let f' = cond (eqb f 1) (kind b) f in
       let l' = cond (eqb (kind b) 1) l (kind b) in
-      ends-past f' l' (i + 1) t ∙ ap {B = Ends} (λ n. record { first = first_of f' t; last = last_of l' t; end = n }) (let e : (i + 1) + length t ≡ i + suc (length t) = omega arith in e)
+      ends-past f' l' (i + 1) t ∙ ap {B = EndNumbers} (λ n. record { first = first_of f' t; last = last_of l' t; end = n }) (let e : (i + 1) + length t ≡ i + suc (length t) = omega arith in e)
 
   -- the first byte that is no whitespace stays
   first-stays : (f : ℕ) (t : List ℕ) → (f ≡ 1 → ⊥) → first_of f t ≡ f
@@ -111,14 +115,18 @@ module _ (kind : ℕ → ℕ) where
     told-align [] e = rw (last-blank 1 (stretch kind u) (ap is_empty e))
     told-align (b ∷ x) e = rw (first-solid (stretch kind u) b x e, last-led 1 (stretch kind u) b x e)
 
-    pub marked_by : (i : ℕ) (e : Ends) → e ≡ scanned kind i u → Marked kind u i (record { align = alignment_of (eqb e.first 6) (eqb e.last 6); empty = eqb e.first 1; end = e.end })
-    marked_by i e h =
+    marked_numbers : (i : ℕ) (e : EndNumbers) → e ≡ scanned kind i u → Marked kind u i (record { align = alignment_of (eqb e.first 6) (eqb e.last 6); empty = eqb e.first 1; end = e.end })
+    marked_numbers i e h =
         rw (h ∙ ends-past 1 1 i (stretch kind u), first_kind (stretch kind u))
         (record { end = refl; empty = told-empty front refl; align = numbered _ _ ∙ told-align front refl })
 
+    -- and by the tests of kinds
+    pub marked_by : (i : ℕ) (e : Ends) → end_numbers e ≡ scanned kind i u → Marked kind u i (record { align = alignment_of (sameb the_type e.first Colon) (sameb the_type e.last Colon); empty = sameb the_type e.first Space; end = e.end })
+    marked_by i e h = rw (same-numbers e.first Colon, same-numbers e.last Colon, same-numbers e.first Space) (marked_numbers i (end_numbers e) h)
+
 -- ## Scanning
 
-module _ {kind : ℕ → ℕ} (ok : Reads kind) (s : List ℕ) (e : Ends) where
+module _ {kind : ℕ → ℕ} (ok : Reads kind) (s : List ℕ) (e : EndNumbers) where
   pub scan_end : ahead_of kind (drop e.end s) ≡ 2 → ends_past kind e (stretch kind (line_from s e.end)) ≡ e
   unfolding ends_past stretch
   scan_end h = rw (ends ok (drop e.end s) h)

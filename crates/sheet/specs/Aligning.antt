@@ -1,5 +1,6 @@
 -- Alignments that are written to lent slots.
 use Rattle.std.specs.Prelude.{ℕ, ◌+◌, ◌-◌, ◌≡◌, List, [], ◌∷◌, ◌++◌, Bool, cond, ◌&&◌, eqb, leb, length, take, drop, replicate}
+use Rattle.tokenizer.specs.Bytes.{kind_number}
 use Rattle.tokenizer.specs.Lines.{line_body, is_empty}
 use Rattle.gfm_table.specs.Heads.{stretches, trimmed, untrailed, values, alignment, alignments}
 use Rattle.gfm_table.specs.Delimiters.{stretch, written}
@@ -22,18 +23,28 @@ module _ (kind : ℕ → ℕ) where
 
 -- ## The ends of a stretch: the kinds of its first and last byte that is no whitespace, and where it ends
 
+-- the same with numbers for kinds
+pub record EndNumbers : Type 0 where
+  pub first : ℕ
+  pub last : ℕ
+  pub end : ℕ
+
+-- those of some ends
+abbrev pub end_numbers : Ends → EndNumbers
+end_numbers e = record { first = kind_number e.first; last = kind_number e.last; end = e.end }
+
 -- with one more byte of the kind k
-abbrev pub ends_over : Ends → ℕ → Ends
+abbrev pub ends_over : EndNumbers → ℕ → EndNumbers
 ends_over e k = record { first = cond (eqb e.first 1) k e.first; last = cond (eqb k 1) e.last k; end = e.end + 1 }
 
 module _ (kind : ℕ → ℕ) where
   -- with more bytes
-  unfoldable pub ends_past : Ends → List ℕ → Ends
+  unfoldable pub ends_past : EndNumbers → List ℕ → EndNumbers
   ends_past e [] = e
   ends_past e (b ∷ u) = ends_past (ends_over e (kind b)) u
 
   -- those of the first stretch of u, which starts at i
-  abbrev pub scanned : ℕ → List ℕ → Ends
+  abbrev pub scanned : ℕ → List ℕ → EndNumbers
   scanned i u = ends_past (record { first = 1; last = 1; end = i }) (stretch kind u)
 
 module _ (kind : ℕ → ℕ) where

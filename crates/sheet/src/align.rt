@@ -1,18 +1,17 @@
 // The alignments of a table, written to lent slots.
-ghost use Rattle.std.specs.Prelude.{◌≡◌, cond, ◌≤◌, ◌<◌, ◌+◌, eqb, length};
-ghost use Rattle.tokenizer.specs.Bytes.{kind_in};
-ghost use Rattle.sheet.specs.Aligning.{line_from, aligns_from, line_alignments, ends_over, scanned, filled, filled_if, Marked};
+ghost use Rattle.std.specs.Prelude.{◌≡◌, ◌≤◌, ◌<◌, ◌+◌, length};
+ghost use Rattle.tokenizer.specs.Bytes.{kind_number, kind_in};
+ghost use Rattle.sheet.specs.Aligning.{line_from, aligns_from, line_alignments, end_numbers, ends_over, scanned, filled, filled_if, Marked};
 
 use edit_map::infer_step::Alignment;
 use tokenizer::kinds::Kind;
 use tokenizer::text::Text;
 
-// One stretch of a delimiter row: the kinds of its first and last byte that is no whitespace, 1 where there is none, and its end. Kinds are
-// numbers here: they are only compared, and the definition adds a byte by its number.
+// One stretch of a delimiter row: the kinds of its first and last byte that is no whitespace, whitespace where there is none, and its end.
 #[derive(Clone, Copy)]
 pub struct Ends {
-    pub first: u8,
-    pub last: u8,
+    pub first: Kind,
+    pub last: Kind,
     pub end: usize,
 }
 
@@ -24,21 +23,14 @@ pub struct Mark {
     pub end: usize,
 }
 
-// One of two kinds, by whether the first is whitespace.
-pub fn unless(k: u8, a: u8, b: u8) -> u8
-    ensures { result ≡ cond (eqb k 1) a b }
-{
-    if k == 1 { a } else { b }
-}
-
 // The ends with one more byte of a kind.
-pub fn ends_over(e: Ends, k: u8) -> Ends
+pub fn ends_over(e: Ends, k: Kind) -> Ends
     requires { e.end < 1000000 }
-    ensures { result ≡ ends_over e k }
+    ensures { end_numbers result ≡ ends_over (end_numbers e) (kind_number k) }
 {
     Ends {
-        first: unless(e.first, k, e.first),
-        last: unless(k, e.last, k),
+        first: if e.first == Kind::Space { k } else { e.first },
+        last: if k == Kind::Space { e.last } else { k },
         end: e.end + 1,
     }
 }
@@ -46,11 +38,11 @@ pub fn ends_over(e: Ends, k: u8) -> Ends
 // The first stretch from a place on, byte by byte.
 pub fn scan_stretch(text: &Text, at: usize) -> Ends
     requires { (length text.now.bytes.now ≤ 65536) × (at ≤ length text.now.bytes.now) }
-    ensures { result ≡ scanned (kind_in text.now.kinds.now) at (line_from text.now.bytes.now at) }
+    ensures { end_numbers result ≡ scanned (kind_in text.now.kinds.now) at (line_from text.now.bytes.now at) }
 {
     let mut e = Ends {
-        first: 1,
-        last: 1,
+        first: Kind::Space,
+        last: Kind::Space,
         end: at,
     };
     loop {
@@ -60,7 +52,7 @@ pub fn scan_stretch(text: &Text, at: usize) -> Ends
                 return e;
             }
             _ => {
-                e = ends_over(e, k as u8);
+                e = ends_over(e, k);
             }
         }
     }
@@ -73,8 +65,8 @@ pub fn mark_at(text: &Text, at: usize) -> Mark
 {
     let e = scan_stretch(text, at);
     Mark {
-        align: Alignment::of(e.first == Kind::Colon as u8, e.last == Kind::Colon as u8),
-        empty: e.first == 1,
+        align: Alignment::of(e.first == Kind::Colon, e.last == Kind::Colon),
+        empty: e.first == Kind::Space,
         end: e.end,
     }
 }
@@ -99,20 +91,17 @@ pub fn align_rest(text: &Text, at: usize, slots: &mut [u8])
     ensures { slots.new ≡ filled 0 (aligns_from (kind_in text.now.kinds.now) text.now.bytes.now at) slots.old }
 {
     let mut i = at;
-    let mut n: usize = 0;
-    loop {
+    for slot in slots.iter_mut() {
         let m = mark_at(text, i);
-        if text.kind_at(m.end) == Kind::Pipe {
-            slots[n] = m.align.number();
-            n += 1;
-            i = m.end + 1;
-        } else {
-            if m.empty {
-                return;
-            }
-            slots[n] = m.align.number();
+        let last = text.kind_at(m.end) != Kind::Pipe;
+        if last && m.empty {
             return;
         }
+        *slot = m.align.number();
+        if last {
+            return;
+        }
+        i = m.end + 1;
     }
 }
 

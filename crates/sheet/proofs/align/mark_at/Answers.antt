@@ -9,4 +9,4 @@ pub returns : goal.returns
 returns c =
     let a = c.args in
     let t = a.text.now in
-    rw c.of.ensures (marked_by (kind_in t.kinds.now) (line_from t.bytes.now a.at) a.at _ c.scan_stretch-e.ensures)
+    rw (c.of.ensures, c.eq.ensures, c.eq-2.ensures, c.eq-3.ensures) (marked_by (kind_in t.kinds.now) (line_from t.bytes.now a.at) a.at _ c.scan_stretch-e.ensures)
