@@ -35,7 +35,7 @@ pub fn ends_over(e: Ends, k: Kind) -> Ends
     }
 }
 
-// The first stretch from a place on, byte by byte.
+// The first stretch from a place on, byte by byte: the end is counted in the record that each byte adds to.
 pub fn scan_stretch(text: &Text, at: usize) -> Ends
     requires { (length text.now.bytes.now ≤ 65536) × (at ≤ length text.now.bytes.now) }
     ensures { end_numbers result ≡ scanned (kind_in text.now.kinds.now) at (line_from text.now.bytes.now at) }
