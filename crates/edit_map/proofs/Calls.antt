@@ -14,7 +14,7 @@ use Rattle.std.specs.Prelude.{Result, Ok, Err, Option as Maybe, Some, None}
 use Rattle.std.specs.Result.{result_unwrap_or}
 use Rattle.tokenizer.specs.declared.event.Event.{Event}
 use Rattle.tokenizer.specs.Events.{blank_event}
-use Rattle.tokenizer.specs.Slots.{slots_of, cleared_from}
+use Rattle.tokenizer.specs.Slots.{slots_of, cleared}
 use Rattle.tokenizer.specs.declared.refusal.Refusal.{Refusal}
 use Rattle.tokenizer.proofs.Blanks.{slots_none, cleared_all}
 use Rattle.edit_map.specs.declared.infer_step.Aligning.{Aligning}
@@ -53,21 +53,21 @@ module _ (es ys : List Event) (fits : length es ≤ most) where
       go false e = refl
 
   -- slots that are all cleared
-  none_kept : (zs : List Event) → length zs ≡ n → cleared_from 0 zs ≡ slots_of n []
+  none_kept : (zs : List Event) → length zs ≡ n → cleared blank_event 0 zs ≡ slots_of n []
   none_kept zs h = cleared_all zs ∙ ap (λ (k : ℕ). replicate k blank_event) h ∙ sym (slots_none n)
 
-  pub streamed_slots_lem : cleared_from (result_unwrap_or (streamed es n) 0) (streamed_slots es ys) ≡ resolve_slots es n
+  pub streamed_slots_lem : cleared blank_event (result_unwrap_or (streamed es n) 0) (streamed_slots es ys) ≡ resolve_slots es n
   unfolding streamed streamed_slots resolve_slots
   streamed_slots_lem = go (accepts es) refl
     where
       kept : Maybe ℕ → List Event
-      kept o = cleared_from (result_unwrap_or (streamed_by o) 0) (stepped es front ys)
+      kept o = cleared blank_event (result_unwrap_or (streamed_by o) 0) (stepped es front ys)
 
       fit : (b : Bool) → leb (length out) n ≡ b → Resolves es out ys → kept (cond b (Some (length out)) None) ≡ slots_of n (cond b out [])
       fit true e r = r.records (leb-true (length out) n e)
       fit false e r = none_kept (stepped es front ys) (as_many es front ys)
 
-      go : (b : Bool) → accepts es ≡ b → cleared_from (result_unwrap_or (cond b (streamed_by (given_to es 0 n front)) (Err Refusal.NoRawTables)) 0) (cond b (stepped es front ys) ys) ≡ slots_of n (cond (b && leb (length out) n) out [])
+      go : (b : Bool) → accepts es ≡ b → cleared blank_event (result_unwrap_or (cond b (streamed_by (given_to es 0 n front)) (Err Refusal.NoRawTables)) 0) (cond b (stepped es front ys) ys) ≡ slots_of n (cond (b && leb (length out) n) out [])
       go true e = let r = resolve_stream es e fits ys in ap kept r.count ∙ fit (leb (length out) n) refl r
       go false e = none_kept ys refl
 

@@ -1,11 +1,11 @@
 -- The steps over a row's cells: the events of each, and what is left behind it.
 -- Assumes nothing.
-use Prim.Native.Nat.{ℕ, zero, suc, ◌+◌, ◌-◌, ◌*◌, ◌^◌, ◌≤◌, ◌<◌}
+use Prim.Native.Nat.{ℕ, zero, suc, ◌+◌, ◌-◌, ◌*◌, ◌≤◌, ◌<◌}
 use mathlib.Core.Path.{◌≡◌, refl, sym, ap, ◌∙◌, subst}
 use mathlib.Core.List.{List, [], ◌∷◌, ◌++◌, append_assoc}
 use mathlib.Core.Bool.{Bool, true, false, cond, ◌||◌, ◌&&◌, not, true≢false}
 use lib.Dec.{eqb}
-use lib.ListN.{length, drop, set, length-set, length-append}
+use lib.ListN.{length, drop, set, length-append}
 use native.Mathlib.Omega.{arith}
 use borrow.Author.Tests.{eqb-true, eqb-false}
 use Rattle.std.specs.Prelude.{Option, Some, None}
@@ -16,10 +16,10 @@ use Rattle.tokenizer.specs.Bytes.{Reads}
 use Rattle.tokenizer.specs.Lines.{line_body}
 use Rattle.tokenizer.specs.Moves.{ahead_of, rest_of, Inside}
 use Rattle.tokenizer.specs.Points.{column_past, past}
-use Rattle.tokenizer.specs.Slots.{nowhere, slot_if, past_if, event_if, wrote}
+use Rattle.tokenizer.specs.Slots.{past_if, event_if, wrote}
 use Rattle.tokenizer.specs.Events.{Data, GfmTableCell, GfmTableDelimiterCell, SpaceOrTab, number, named as name_of, enter, leave}
 use Rattle.tokenizer.proofs.Ahead.{goes as front, past-append, past-none, inside_past}
-use Rattle.tokenizer.proofs.Writing.{wrote_one, wrote-more, wrote-append, wrote-if, past-if}
+use Rattle.tokenizer.proofs.Writing.{wrote_one, wrote-more, wrote-append, past-if}
 use Rattle.gfm_table.specs.declared.stream.Part.{Part}
 use Rattle.gfm_table.specs.declared.stream.Part.TheVariants.{Head, Delimiter, Body}
 use Rattle.gfm_table.specs.declared.rows.Placed.{Placed}
@@ -36,9 +36,9 @@ use Rattle.edit_map.specs.declared.cell_steps.Step.{Step}
 use Rattle.edit_map.specs.Base.{is_text_name}
 use Rattle.edit_map.specs.Raw.{row_piece, delimiter_piece}
 use Rattle.edit_map.specs.Tables.{cells, row_inner, delimiter_inner, first_point, cell_events}
-use Rattle.edit_map.specs.Cells.{tail, tail_marks, cell_opened, row_turn, mark_turn}
+use Rattle.edit_map.specs.Cells.{tail, tail_marks, row_turn, mark_turn}
 use Rattle.edit_map.specs.Spans.{opens_at, text_next, Reaches}
-use Rattle.edit_map.specs.CellRows.{cell_of, value_of, inside_of, text_left, reach_of, step_from, step_over, step_of, first_within, behind, start_of, stop_of, slots_in, entry_in, step_put, cells_at, cells_end, cells_wrote}
+use Rattle.edit_map.specs.CellRows.{cell_of, value_of, inside_of, text_left, reach_of, step_from, step_over, step_of, first_within, behind, start_of, stop_of, next_of, entry_in, step_events, step_put, cells_at, cells_end, cells_wrote}
 use Rattle.edit_map.proofs.Cells.{enters, row_ends, marks-end}
 use Rattle.edit_map.proofs.Spans.{text_ahead_lem, space_next, Goes, goes_none, goes_ends, next}
 use Rattle.edit_map.proofs.CellTurns.{ReachesAs, first-named, is_data, row_at, marks-at}
@@ -47,44 +47,28 @@ use Rattle.edit_map.proofs.RawRows.{Named, rows_named, delimiters_named}
 
 -- ## The slots of a step
 
--- as many slots as memory has are below the place past all of them
-pub room-few : (n : ℕ) → n < 2 ^ 64 → n ≤ nowhere
-room-few n h = omega (arith, h)
-
 -- one event, or none, and others behind it
-one : (b : Bool) (k : ℕ) (e : Event) (es zs : List Event) → length zs ≤ nowhere → wrote k (event_if b e ++ es) zs ≡ wrote (past_if b k) es (set zs (slot_if b k) e)
-one b k e es zs h = wrote-append k (event_if b e) es zs ∙ (λ i. wrote (sym (past-if b k e) i) es (sym (wrote-if b k e zs h) i))
-
-set-few : (zs : List Event) (i : ℕ) (e : Event) → length zs ≤ nowhere → length (set zs i e) ≤ nowhere
-set-few zs i e h = rw (length-set zs i e) h
-
--- the events of a step in the line l
-abbrev pub step_events : Part → ℕ → Step → List Event
-step_events part l x =
-    cell_opened (cell_of part) x.opens (start_of l x) ++ (event_if x.enters (enter (value_of part) (start_of l x)) ++ (entry_in l x ∷ leave (number x.name) (stop_of l x) ∷ event_if x.leaves (leave (value_of part) (stop_of l x))))
+one : (b : Bool) (k : ℕ) (e : Event) (es zs : List Event) → wrote k (event_if b e ++ es) zs ≡ wrote (past_if b k) es (wrote k (event_if b e) zs)
+one b k e es zs = wrote-append k (event_if b e) es zs ∙ ap (λ (j : ℕ). wrote j es (wrote k (event_if b e) zs)) (sym (past-if b k e))
 
 module _ (o t l : Bool) (k : ℕ) (a b c d e f : Event) where
   -- the slot of the piece's entry
   abbrev begins : ℕ
   begins = past_if t (past_if o (past_if o k))
 
-  six : (zs : List Event) → length zs ≤ nowhere
-      → set (set (set (set (set (set zs (slot_if o k) a) (slot_if o (past_if o k)) b) (slot_if t (past_if o (past_if o k))) c) begins d) (begins + 1) e) (slot_if l (begins + 2)) f ≡ wrote k ((event_if o a ++ event_if o b) ++ (event_if t c ++ (d ∷ e ∷ event_if l f))) zs
-  six zs h =
-      let z1 = set zs (slot_if o k) a in
-      let h1 = set-few zs (slot_if o k) a h in
-      let z2 = set z1 (slot_if o (past_if o k)) b in
-      let h2 = set-few z1 (slot_if o (past_if o k)) b h1 in
-      let z3 = set z2 (slot_if t (past_if o (past_if o k))) c in
-      let h3 = set-few z2 (slot_if t (past_if o (past_if o k))) c h2 in
+  -- one after the other, they are all written
+  pub six : (zs : List Event)
+      → wrote (begins + 2) (event_if l f) (set (set (wrote (past_if o (past_if o k)) (event_if t c) (wrote (past_if o k) (event_if o b) (wrote k (event_if o a) zs))) begins d) (begins + 1) e) ≡ wrote k ((event_if o a ++ event_if o b) ++ (event_if t c ++ (d ∷ e ∷ event_if l f))) zs
+  six zs =
+      let z1 = wrote k (event_if o a) zs in
+      let z2 = wrote (past_if o k) (event_if o b) z1 in
+      let z3 = wrote (past_if o (past_if o k)) (event_if t c) z2 in
       let z4 = set z3 begins d in
-      let h4 = set-few z3 begins d h3 in
       let z5 = set z4 (begins + 1) e in
-      let h5 = set-few z4 (begins + 1) e h4 in
       let two : begins + 1 + 1 ≡ begins + 2 = omega arith in
       sym
-      (ap (λ (es : List Event). wrote k es zs) (append_assoc (event_if o a) (event_if o b) (event_if t c ++ (d ∷ e ∷ event_if l f))) ∙ one o k a (event_if o b ++ (event_if t c ++ (d ∷ e ∷ event_if l f))) zs h ∙ one o (past_if o k) b (event_if t c ++ (d ∷ e ∷ event_if l f)) z1 h1 ∙ one t (past_if o (past_if o k)) c (d ∷ e ∷ event_if l f) z2 h2
-      ∙ wrote-more begins d (e ∷ event_if l f) z3 ∙ wrote-more (begins + 1) e (event_if l f) z4 ∙ ap (λ (m : ℕ). wrote m (event_if l f) z5) two ∙ sym (wrote-if l (begins + 2) f z5 h5))
+      (ap (λ (es : List Event). wrote k es zs) (append_assoc (event_if o a) (event_if o b) (event_if t c ++ (d ∷ e ∷ event_if l f))) ∙ one o k a (event_if o b ++ (event_if t c ++ (d ∷ e ∷ event_if l f))) zs ∙ one o (past_if o k) b (event_if t c ++ (d ∷ e ∷ event_if l f)) z1 ∙ one t (past_if o (past_if o k)) c (d ∷ e ∷ event_if l f) z2
+      ∙ wrote-more begins d (e ∷ event_if l f) z3 ∙ wrote-more (begins + 1) e (event_if l f) z4 ∙ ap (λ (m : ℕ). wrote m (event_if l f) z5) two)
 
 -- how many events there are
 count : (o t l : Bool) (k : ℕ) (a b c d e f : Event) → past_if l (past_if t (past_if o (past_if o k)) + 2) ≡ k + length ((event_if o a ++ event_if o b) ++ (event_if t c ++ (d ∷ e ∷ event_if l f)))
@@ -326,9 +310,9 @@ module _ {kind : ℕ → ℕ} (ok : Reads kind) where
 
     -- the step x goes on from w
     record Moves (w : Within) (x : Step) : Type 0 where
-      events : (e : Point) → tail_in part e w.waits w.seen (comes_at w) ≡ step_events part l x ++ tail_in part e x.waits x.seen (comes_at (behind x))
-      line : end_at (behind x) ≡ end_at w
-      inside : Inside s (point_at (behind x))
+      events : (e : Point) → tail_in part e w.waits w.seen (comes_at w) ≡ step_events part l x ++ tail_in part e x.waits x.seen (comes_at (behind (next_of x) x))
+      line : end_at (behind (next_of x) x) ≡ end_at w
+      inside : Inside s (point_at (behind (next_of x) x))
       long : w.at < x.end
 
   module _ (s : List ℕ) (l : ℕ) (w : Within) (n : ℕ) (u : List ℕ) where
@@ -367,7 +351,7 @@ module _ {kind : ℕ → ℕ} (ok : Reads kind) where
       line-is : rest_of s q ≡ passes.text ++ rest_of s (past q passes.text)
       line-is = passes.line ∙ ap (λ (a : ℕ). passes.text ++ line_body (drop a s)) passes.end
 
-      moving : ((e : Point) → tail_in part e w.waits w.seen (comes_at s part l w) ≡ step_events part l (step_to r) ++ tail_in part e (step_to r).waits (step_to r).seen (comes_at s part l (behind (step_to r)))) → (x : Step) → step_of kind s part w ≡ Some x → Moves s part l w x
+      moving : ((e : Point) → tail_in part e w.waits w.seen (comes_at s part l w) ≡ step_events part l (step_to r) ++ tail_in part e (step_to r).waits (step_to r).seen (comes_at s part l (behind (next_of (step_to r)) (step_to r)))) → (x : Step) → step_of kind s part w ≡ Some x → Moves s part l w x
       moving core x e =
           let z : ◌≡◌ {A = Option Step} (Some (step_to r)) (Some x) = sym (stepped part f r h) ∙ e in
           let y : step_to r ≡ x = cc in
@@ -389,7 +373,7 @@ module _ {kind : ℕ → ℕ} (ok : Reads kind) where
         moving Body f r z.reaches
         (λ e.
         row_at ok GfmTableCell e s l w.at w.column m u q.index q.column refl refl g w.seen r z.reaches
-        ∙ ap (λ (es : List Event). es ++ tail GfmTableCell row_inner e x.seen (comes_at s Body l (behind x)))
+        ∙ ap (λ (es : List Event). es ++ tail GfmTableCell row_inner e x.seen (comes_at s Body l (behind (next_of x) x)))
         (row_events_lem ok l w.at w.column w.slot (name_of n) r.at r.column x.opens w.seen w.waits (text_next kind (rest_of s q)) (is_text_name m) (eqb m Data) t))
 
     delimiter-moves : (Piecing kind) s Delimiter p n u → (x : Step) → step_of kind s Delimiter w ≡ Some x → Moves s Delimiter l w x
@@ -401,7 +385,7 @@ module _ {kind : ℕ → ℕ} (ok : Reads kind) where
         moving Delimiter f r (λ z. absurd (eqb-false m Data d z), λ z. refl)
         (λ e.
         marks-at ok GfmTableDelimiterCell e s l w.at w.column m u q.index q.column refl refl g w.waits w.seen
-        ∙ ap (λ (es : List Event). es ++ tail_marks GfmTableDelimiterCell e x.waits x.seen (comes_at s Delimiter l (behind x)))
+        ∙ ap (λ (es : List Event). es ++ tail_marks GfmTableDelimiterCell e x.waits x.seen (comes_at s Delimiter l (behind (next_of x) x)))
         (mark_events ok l w.at w.column w.slot (name_of n) r.at r.column x.opens w.seen w.waits (text_next kind (rest_of s q)) (is_text_name m) (eqb m Data) d))
 
     -- a head line is read as a body row is
@@ -425,13 +409,13 @@ module _ {kind : ℕ → ℕ} (ok : Reads kind) where
   module _ (s : List ℕ) (part : Part) (l : ℕ) where
     -- the step x is written
     pub record Onward (w : Within) (x : Step) : Type 0 where
-      pub good : Good s part l (behind x)
-      pub more : (zs : List Event) → length zs ≤ nowhere → makes s part l w zs ≡ makes s part l (behind x) (step_put part l x (slots_in x) zs)
+      pub good : Good s part l (behind (next_of x) x)
+      pub more : (zs : List Event) → makes s part l w zs ≡ makes s part l (behind (next_of x) x) (step_put part l x zs)
       pub long : w.at < x.end
 
     onward : (w : Within) (x : Step) → Good s part l w → x.slot ≡ w.slot → Moves s part l w x → Onward w x
     onward w x h k m =
-        let v = behind x in
+        let v = behind (next_of x) x in
         let es = step_events part l x in
         let rest = left_at s part l v in
         let a = leave (cell_of part) (start_of l x) in
@@ -443,13 +427,11 @@ module _ {kind : ℕ → ℕ} (ok : Reads kind) where
         let n : v.slot ≡ w.slot + length es = count x.opens x.enters x.leaves x.slot a b c (entry_in l x) d f ∙ ap (λ (j : ℕ). j + length es) k in
         let sum : w.slot + length (left_at s part l w) ≡ v.slot + length rest = omega (arith, n, ap length q, length-append es rest) in
         let few : v.slot ≤ x.slot + 6 = at_most x.opens x.enters x.leaves x.slot in
-        let put : (zs : List Event) → length zs ≤ nowhere → step_put part l x (slots_in x) zs ≡ wrote w.slot es zs =
-        λ zs g. six x.opens x.enters x.leaves x.slot a b c (entry_in l x) d f zs g ∙ ap (λ (j : ℕ). wrote j es zs) k in
-        let all : (zs : List Event) → length zs ≤ nowhere → wrote w.slot (left_at s part l w) zs ≡ wrote v.slot rest (step_put part l x (slots_in x) zs) =
-        λ zs g. ap (λ (r : List Event). wrote w.slot r zs) q ∙ wrote-append w.slot es rest zs ∙ (λ j. wrote (sym n j) rest (sym (put zs g) j)) in
+        let all : (zs : List Event) → wrote w.slot (left_at s part l w) zs ≡ wrote v.slot rest (step_put part l x zs) =
+        λ zs. ap (λ (r : List Event). wrote w.slot r zs) q ∙ wrote-append w.slot es rest zs ∙ (λ j. wrote (sym n j) rest (wrote (sym k j) es zs)) in
         record {
           good = (m.inside, omega (arith, few, k, h.1, m.long));
-          more = λ zs g. λ j. (record { at = (sym m.line j).index; column = (sym m.line j).column; slot = sum j }, all zs g j);
+          more = λ zs. λ j. (record { at = (sym m.line j).index; column = (sym m.line j).column; slot = sum j }, all zs j);
           long = m.long;
         }
 

@@ -10,9 +10,10 @@ use borrow.Author.Tests.{eqb-true}
 use Rattle.tokenizer.specs.declared.event.Point.{Point}
 use Rattle.tokenizer.specs.declared.event.Event.{Event}
 use Rattle.tokenizer.specs.Events.{Data, GfmTableCellDivider, GfmTableCellText, GfmTableDelimiterCellValue, GfmTableDelimiterFiller, GfmTableDelimiterMarker, SpaceOrTab, enter, leave, linked, point_of}
+use Rattle.tokenizer.specs.Slots.{event_if}
 use Rattle.gfm_table.specs.Rows.{Passed, all_both}
 use Rattle.edit_map.specs.Tables.{named, is_text, is_solid, any_solid, any_text, cells, first_cell, other_cells, before, last_text, after_text, upto_text, row_inner, delimiter_inner, first_point, boundary, cell_events}
-use Rattle.edit_map.specs.Cells.{text_ahead, later, last_ahead, from_within, tail, value_entered, value_left, marked, marks_inner, tail_marks, opens_cell, row_turn, mark_turn}
+use Rattle.edit_map.specs.Cells.{text_ahead, later, last_ahead, from_within, tail, value_left, marked, marks_inner, tail_marks, opens_cell, row_turn, mark_turn}
 use Rattle.edit_map.proofs.Parse.{no_nil}
 use Rattle.edit_map.proofs.Gives.{Tests, Sort, space, divider, text, Fine, AllFine, some-cell, cell, is_ahead, goes_on_lem, last-is, value_cells, and_none, none_and}
 use Rattle.edit_order.proofs.Bools.{both_true, and_false, and_true, or_false, or_true, or_none}
@@ -151,6 +152,10 @@ marks-plain : (w : Bool) (x : Passed) → is_text x ≡ false → (c : List Pass
 unfolding delimiter_inner marked
 marks-plain true x t c = rw t
 marks-plain false x t c = rw t
+
+-- a value is entered before a mark
+abbrev value_entered : Bool → Passed → List Event
+value_entered begins x = event_if begins (enter GfmTableDelimiterCellValue (point_of x.entry))
 
 marks-mark : (w : Bool) (x : Passed) → is_text x ≡ true → (c : List Passed) → marks_inner w (x ∷ c) ≡ value_entered w x ++ (x.entry ∷ x.exit ∷ value_left (not (any_text c)) x ++ marked c)
 unfolding delimiter_inner marked all_both

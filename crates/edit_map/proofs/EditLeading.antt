@@ -9,7 +9,7 @@ use native.Mathlib.Nat.{le_refl}
 use native.Mathlib.Numerals.{add-one}
 use lib.Dec.{eqb}
 use borrow.Author.Tests.{eq-eqb, ne_eqb, eqb-true, eqb-false}
-use lib.ListN.{length, get_or, take, drop, length-drop, drop_of_length-le}
+use lib.ListN.{length, get_or, take, drop, drop_of_length-le}
 use lib.Seq.{drop-cons}
 use Rattle.edit_order.specs.declared.edit_slots.Edit.{Edit}
 use Rattle.edit_order.specs.EditFives.{no_edit}
@@ -50,33 +50,33 @@ pub removed_nil : removed [] ≡ 0
 unfolding removed
 removed_nil = refl
 
-pub record Gathering (es : List Edit) (i p j n sum : ℕ) : Type 0 where
+pub record Gathering (es : List Edit) (p j n sum : ℕ) : Type 0 where
   pub upto : j ≤ length es
-  pub size : length (leading p (drop i es)) ≡ n + length (leading p (drop j es))
-  pub sums : removed (leading p (drop i es)) ≡ sum + removed (leading p (drop j es))
+  pub size : length (leading p es) ≡ n + length (leading p (drop j es))
+  pub sums : removed (leading p es) ≡ sum + removed (leading p (drop j es))
 
-module _ (es : List Edit) (i p j n sum : ℕ) (g : Gathering es i p j n sum) where
-  gathered : leading p (drop j es) ≡ [] → (n ≡ length (leading p (drop i es))) × (sum ≡ removed (leading p (drop i es)))
+module _ (es : List Edit) (p j n sum : ℕ) (g : Gathering es p j n sum) where
+  gathered : leading p (drop j es) ≡ [] → (n ≡ length (leading p es)) × (sum ≡ removed (leading p es))
   gathered e = (omega (arith, g.size, ap length e), omega (arith, g.sums, ap removed e ∙ removed_nil))
 
-  pub gather_end : length es ≤ j → (n ≡ length (leading p (drop i es))) × (sum ≡ removed (leading p (drop i es)))
+  pub gather_end : length es ≤ j → (n ≡ length (leading p es)) × (sum ≡ removed (leading p es))
   gather_end h = gathered (leads_end p es j h)
 
   -- at edit j
   module _ (e : Edit) (q : e ≡ get_or es j no_edit) (l : j < length es) where
-    pub gather_off : (e.at ≡ p → ⊥) → (n ≡ length (leading p (drop i es))) × (sum ≡ removed (leading p (drop i es)))
+    pub gather_off : (e.at ≡ p → ⊥) → (n ≡ length (leading p es)) × (sum ≡ removed (leading p es))
     gather_off h = gathered (leads_off p es j l (λ r. h (ap (λ (x : Edit). x.at) q ∙ r)))
 
     goes_on_lem : e.at ≡ p → leading p (drop j es) ≡ e ∷ leading p (drop (j + 1) es)
     goes_on_lem h = rw q (leads_on p es j l (ap (λ (x : Edit). x.at) (sym q) ∙ h))
 
-    pub gather_fits : e.at ≡ p → (n < length es) × (sum + e.removes ≤ removed (leading p (drop i es)))
+    pub gather_fits : e.at ≡ p → (n < length es) × (sum + e.removes ≤ removed (leading p es))
     gather_fits h = (
-      omega (arith, g.size, ap length (goes_on_lem h), leading_le p (drop i es), length-drop i es),
+      omega (arith, g.size, ap length (goes_on_lem h), leading_le p es),
       omega (arith, g.sums, ap removed (goes_on_lem h) ∙ removed-cons e (leading p (drop (j + 1) es))),
     )
 
-    pub gather_on : e.at ≡ p → Gathering es i p (j + 1) (n + 1) (sum + e.removes)
+    pub gather_on : e.at ≡ p → Gathering es p (j + 1) (n + 1) (sum + e.removes)
     gather_on h = record {
       upto = omega arith;
       size = g.size ∙ rw (goes_on_lem h) (omega arith);

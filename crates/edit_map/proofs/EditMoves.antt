@@ -14,6 +14,8 @@ use lib.ListN.{length, get_or, drop, length-drop, drop_of_length-le}
 use lib.Seq.{drop-cons, drop-drop, drop-nil, get_or-drop}
 use Rattle.tokenizer.specs.declared.event.Event.{Event}
 use Rattle.edit_order.specs.declared.edit_slots.Edit.{Edit}
+use Rattle.edit_map.specs.declared.edit_walk.Backward.{Backward}
+use Rattle.edit_map.specs.declared.edit_walk.Forward.{Forward}
 use Rattle.edit_map.specs.declared.edit_walk.Cursor.{Cursor}
 use Rattle.edit_map.specs.declared.edit_walk.Cursor.TheVariants.{Between, Back, Forth}
 use Rattle.edit_map.specs.declared.edit_walk.Stepped.TheVariants as step
@@ -22,7 +24,7 @@ use Rattle.edit_order.specs.Edits.{here, removed, addition}
 use Rattle.edit_order.specs.EditOrder.{Rises}
 use Rattle.tokenizer.specs.Events.{blank_event}
 use Rattle.tokenizer.specs.Slots.{event_at}
-use Rattle.edit_map.specs.EditCursor.{leading, front, back, backward, forward, to_come, Stands, Ordered, Ready, Steps}
+use Rattle.edit_map.specs.EditCursor.{leading, front, back, backward, forward, to_come, Stands, Ordered, Steps}
 use Rattle.edit_order.proofs.EditOrder.{here-below, rises-after}
 use Rattle.edit_order.proofs.EditSorted.{edited_cong}
 use Rattle.edit_map.proofs.EditLeading.{leading-here, leading_le, leads_on}
@@ -39,7 +41,7 @@ keeps r s = record { rise = r.rise; fit = r.fit; stand = s }
 
 -- ## Between two groups
 
-module _ (list pool : List Event) (es : List Edit) (at i : ℕ) (r : Ready (length list) (length pool) es (Between at i)) where
+module _ (list pool : List Event) (es : List Edit) (at i : ℕ) (r : Ordered (length list) (length pool) es (Between at i)) where
   module _ (e : Edit) (q : e ≡ get_or es i no_edit) (h : i < length es) where
     same_at : (get_or es i no_edit).at ≡ e.at
     same_at = ap (λ (x : Edit). x.at) (sym q)
@@ -63,7 +65,7 @@ module _ (list pool : List Event) (es : List Edit) (at i : ℕ) (r : Ready (leng
       between-room =
           omega (arith, ap removed (leading-here at (drop i es) rises-here), removed-drop at es i, fit-removed (length list) (length pool) es r.fit at r.stand.0)
 
-      pub between_group : (s m : ℕ) → s ≡ length (leading at (drop i es)) → m ≡ removed (leading at (drop i es)) → Steps list pool es (Between at i) (step.On (Back i s s 0 (at + m)))
+      pub between_group : (s m : ℕ) → s ≡ length (leading at (drop i es)) → m ≡ removed (leading at (drop i es)) → Steps list pool es (Between at i) (step.On (Back (record { edit = i; size = s; left = s; off = 0; next = at + m })))
       between_group s m a b = (
         omega (arith, some, fits),
         keeps r (omega (arith, between-room), omega (arith, fits), le_refl s),
@@ -114,78 +116,78 @@ off_back pool e off (inr h) = go (eqb e.before 0)
     go true = addition_off pool e off h
     go false = drop-nil off
 
-module _ (list pool : List Event) (es : List Edit) (i s left off next : ℕ) (r : Ready (length list) (length pool) es (Back i s left off next)) where
-  pub back-turn : left ≡ 0 → Steps list pool es (Back i s left off next) (step.On (Forth i s 0 next))
+module _ (list pool : List Event) (es : List Edit) (b : Backward) (r : Ordered (length list) (length pool) es (Back b)) where
+  pub back-turn : b.left ≡ 0 → Steps list pool es (Back b) (step.On (Forth (record { edit = b.edit; left = b.size; off = 0; next = b.next })))
   unfolding backward
   back-turn z = (
     omega arith,
     keeps r (r.stand.0, r.stand.1),
-    rw (z, forward-start pool (drop i es) s (rw length-drop (omega (arith, r.stand.1)))),
+    rw (z, forward-start pool (drop b.edit es) b.size (rw length-drop (omega (arith, r.stand.1)))),
   )
 
   -- at the last of the edits that are left
-  module _ (k : ℕ) (l : left ≡ suc k) (e : Edit) (q : e ≡ get_or es (i + k) no_edit) where
-    last-is : get_or (drop i es) k no_edit ≡ e
-    last-is = get_or-drop i es k no_edit ∙ sym q
+  module _ (k : ℕ) (l : b.left ≡ suc k) (e : Edit) (q : e ≡ get_or es (b.edit + k) no_edit) where
+    last-is : get_or (drop b.edit es) k no_edit ≡ e
+    last-is = get_or-drop b.edit es k no_edit ∙ sym q
 
-    pub back_fits : off < e.adds → e.from + e.adds ≤ length pool
-    back_fits o = rw (← q) at (fit_pool (length list) (length pool) es r.fit (i + k) (omega (arith, r.stand.1, r.stand.2)) (rw (← q) (omega arith)))
+    pub back_fits : b.off < e.adds → e.from + e.adds ≤ length pool
+    back_fits o = rw (← q) at (fit_pool (length list) (length pool) es r.fit (b.edit + k) (omega (arith, r.stand.1, r.stand.2)) (rw (← q) (omega arith)))
 
-    pub back_pool : (e.before ≡ 0 → ⊥) → off < e.adds → Steps list pool es (Back i s left off next) (step.Gives (event_at pool (e.from + off)) (Back i s left (off + 1) next))
+    pub back_pool : (e.before ≡ 0 → ⊥) → b.off < e.adds → Steps list pool es (Back b) (step.Gives (event_at pool (e.from + b.off)) (Back (record { edit = b.edit; size = b.size; left = b.left; off = b.off + 1; next = b.next })))
     unfolding backward
-    back_pool b o = (
+    back_pool y o = (
       keeps r r.stand,
-      rw (l, last-is, ne_eqb e.before 0 b, addition_on pool e off o (back_fits o)),
+      rw (l, last-is, ne_eqb e.before 0 y, addition_on pool e b.off o (back_fits o)),
     )
 
-    pub back_on : (e.before ≡ 0) ⊎ (e.adds ≤ off) → Steps list pool es (Back i s left off next) (step.On (Back i s k 0 next))
+    pub back_on : (e.before ≡ 0) ⊎ (e.adds ≤ b.off) → Steps list pool es (Back b) (step.On (Back (record { edit = b.edit; size = b.size; left = k; off = 0; next = b.next })))
     unfolding backward
     back_on o = (
       omega arith,
       keeps r (r.stand.0, r.stand.1, omega (arith, r.stand.2)),
-      rw (l, last-is, off_front pool e off o, backward-start pool (drop i es) k (rw length-drop (omega (arith, r.stand.1, r.stand.2)))),
+      rw (l, last-is, off_front pool e b.off o, backward-start pool (drop b.edit es) k (rw length-drop (omega (arith, r.stand.1, r.stand.2)))),
     )
 
-module _ (list pool : List Event) (es : List Edit) (i left off next : ℕ) (r : Ready (length list) (length pool) es (Forth i left off next)) where
-  pub forth_turn : left ≡ 0 → Steps list pool es (Forth i left off next) (step.On (Between next i))
+module _ (list pool : List Event) (es : List Edit) (f : Forward) (r : Ordered (length list) (length pool) es (Forth f)) where
+  pub forth_turn : f.left ≡ 0 → Steps list pool es (Forth f) (step.On (Between f.next f.edit))
   unfolding forward
   forth_turn z = (omega arith, keeps r (r.stand.0, omega (arith, r.stand.1)), rw z)
 
   -- at the first of the edits that are left
-  module _ (k : ℕ) (l : left ≡ suc k) (e : Edit) (q : e ≡ get_or es i no_edit) where
-    first-is : get_or (drop i es) 0 no_edit ≡ e
-    first-is = get_or-drop i es 0 no_edit ∙ rw (add-zero i) (sym q)
+  module _ (k : ℕ) (l : f.left ≡ suc k) (e : Edit) (q : e ≡ get_or es f.edit no_edit) where
+    first-is : get_or (drop f.edit es) 0 no_edit ≡ e
+    first-is = get_or-drop f.edit es 0 no_edit ∙ rw (add-zero f.edit) (sym q)
 
-    pub forth_fits : off < e.adds → e.from + e.adds ≤ length pool
-    forth_fits o = rw (← q) at (fit_pool (length list) (length pool) es r.fit i (omega (arith, r.stand.1)) (rw (← q) (omega arith)))
+    pub forth_fits : f.off < e.adds → e.from + e.adds ≤ length pool
+    forth_fits o = rw (← q) at (fit_pool (length list) (length pool) es r.fit f.edit (omega (arith, r.stand.1)) (rw (← q) (omega arith)))
 
-    pub forth_pool : e.before ≡ 0 → off < e.adds → Steps list pool es (Forth i left off next) (step.Gives (event_at pool (e.from + off)) (Forth i left (off + 1) next))
+    pub forth_pool : e.before ≡ 0 → f.off < e.adds → Steps list pool es (Forth f) (step.Gives (event_at pool (e.from + f.off)) (Forth (record { edit = f.edit; left = f.left; off = f.off + 1; next = f.next })))
     unfolding forward
     forth_pool b o = (
       keeps r r.stand,
-      rw (l, first-is, eq-eqb e.before 0 b, addition_on pool e off o (forth_fits o)),
+      rw (l, first-is, eq-eqb e.before 0 b, addition_on pool e f.off o (forth_fits o)),
     )
 
-    pub forth_on : (e.before ≡ 0 → ⊥) ⊎ (e.adds ≤ off) → Steps list pool es (Forth i left off next) (step.On (Forth (i + 1) k 0 next))
+    pub forth_on : (e.before ≡ 0 → ⊥) ⊎ (e.adds ≤ f.off) → Steps list pool es (Forth f) (step.On (Forth (record { edit = f.edit + 1; left = k; off = 0; next = f.next })))
     unfolding forward
     forth_on o = (
       omega arith,
       keeps r (r.stand.0, omega (arith, r.stand.1)),
-      rw (l, first-is, off_back pool e off o, ← (drop-drop 1 i es), forward-start pool (drop 1 (drop i es)) k short, drop-one k (drop i es)),
+      rw (l, first-is, off_back pool e f.off o, ← (drop-drop 1 f.edit es), forward-start pool (drop 1 (drop f.edit es)) k short, drop-one k (drop f.edit es)),
     )
       where
-        short : k ≤ length (drop 1 (drop i es))
-        short = omega (arith, length-drop 1 (drop i es), length-drop i es, r.stand.1)
+        short : k ≤ length (drop 1 (drop f.edit es))
+        short = omega (arith, length-drop 1 (drop f.edit es), length-drop f.edit es, r.stand.1)
 
 -- ## From the step to the next record
 
 -- what was still to come at c is still to come at d
 pub record Walking (list pool : List Event) (es : List Edit) (c d : Cursor) : Type 0 where
-  pub ready : Ready (length list) (length pool) es d
+  pub ready : Ordered (length list) (length pool) es d
   pub comes : to_come list pool es c ≡ to_come list pool es d
 
 module _ {list pool : List Event} {es : List Edit} {c d : Cursor} (w : Walking list pool es c d) where
-  pub next_given : (e : Event) (f : Cursor) → Steps list pool es d (step.Gives e f) → Ready (length list) (length pool) es f × (to_come list pool es c ≡ e ∷ to_come list pool es f)
+  pub next_given : (e : Event) (f : Cursor) → Steps list pool es d (step.Gives e f) → Ordered (length list) (length pool) es f × (to_come list pool es c ≡ e ∷ to_come list pool es f)
   next_given e f v = (v.0, w.comes ∙ v.1)
 
   pub next-end : Steps list pool es d step.End → to_come list pool es c ≡ []

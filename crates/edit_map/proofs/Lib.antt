@@ -12,6 +12,8 @@ pub mod Spans
 pub mod Streams
 pub mod Steps
 pub mod Parse
+pub mod Accepting
+pub mod Looking
 pub mod RawRows
 pub mod CellTurns
 pub mod CellRows

@@ -2,7 +2,7 @@
 -- Assumes nothing.
 use Prim.Native.Nat.{ℕ, zero, suc, ◌+◌, ◌<◌, ◌≤◌, ◌^◌}
 use mathlib.Core.Path.{◌≡◌, refl, sym, ap, ◌∙◌}
-use mathlib.Core.Bool.{Bool, true, false, cond, not}
+use mathlib.Core.Bool.{Bool, true, false, cond}
 use Rattle.std.specs.Bool.{then_some}
 use mathlib.Core.List.{List, [], ◌∷◌, ◌++◌, append-nil}
 use native.Mathlib.Omega.{arith}
@@ -14,10 +14,9 @@ use Rattle.tokenizer.proofs.Filling.{take-set, kept_set}
 use Rattle.std.specs.Prelude.{Some, None}
 use Rattle.tokenizer.specs.declared.event.Event.{Event}
 use Rattle.edit_map.specs.declared.resolve_step.Cursor.{Cursor}
-use Rattle.edit_map.specs.declared.resolve_look.Look.{Look}
 use Rattle.edit_map.specs.declared.infer_step.Aligning.{Aligning}
 use Rattle.edit_map.specs.Base.{most}
-use Rattle.edit_map.specs.Cursors.{look_step, look_all, look_of, next_at, over_at, turn_here, next_of, stepped, given_to}
+use Rattle.edit_map.specs.Cursors.{look_of, next_at, over_at, turn_here, next_of, stepped, given_to}
 use Rattle.edit_map.specs.Turns.{turn_of}
 use Rattle.tokenizer.specs.Slots.{event_at}
 use Rattle.edit_map.specs.AlignSteps.{slot_of, align_step, pauses, scan_all, scan_of, aligns_from}
@@ -80,19 +79,6 @@ pub in_most : {n : ℕ} → n < 2 ^ 64 → n ≤ most
 in_most h = omega (arith, h)
 
 -- ## Scans
-
--- the look ahead
-pub not_on : (b : Bool) → not b ≡ true → b ≡ false
-not_on true e = sym e
-not_on false e = refl
-
-pub look_more : (l : Look) (e : Event) (es : List Event) → look_all l (e ∷ es) ≡ look_all (look_step l e) es
-unfolding look_all
-look_more l e es = refl
-
-pub look_none : (l : Look) → look_all l [] ≡ l
-unfolding look_all
-look_none l = refl
 
 -- the alignments
 pub scan_more : (off : Aligning → Bool) (s : Aligning) (e : Event) (es : List Event) → off s ≡ false → scan_all off s (e ∷ es) ≡ scan_all off (align_step s e) es

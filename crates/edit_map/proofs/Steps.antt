@@ -1,7 +1,7 @@
 -- The cursor's steps are the stream's turns.
 -- Assumes nothing.
 use Prim.Native.Nat.{ℕ, zero, suc, ◌+◌, ◌≤◌}
-use mathlib.Core.Path.{◌≡◌, refl, sym, ap, ◌∙◌, subst}
+use mathlib.Core.Path.{◌≡◌, refl, sym, ap, ◌∙◌}
 use mathlib.Core.List.{List, [], ◌∷◌}
 use mathlib.Core.Bool.{Bool, true, false, cond, ◌||◌, ◌&&◌, not, true≢false}
 use lib.Dec.{eqb, leb, leb-zero, leb-suc-zero, leb-suc-suc}
@@ -10,8 +10,10 @@ use lib.Seq.{drop-drop}
 use native.Mathlib.Omega.{arith}
 use borrow.Author.Tests.{eqb-true, leb-true, leb-false}
 use Rattle.std.specs.Prelude.{Some, None}
+use Rattle.std.specs.declared.ops.ControlFlow.{ControlFlow}
+use Rattle.std.specs.declared.ops.ControlFlow.TheVariants.{Continue, Break}
 use Rattle.tokenizer.specs.declared.event.Event.{Event}
-use Rattle.tokenizer.specs.Slots.{event_at, slots_of, cleared, cleared_from}
+use Rattle.tokenizer.specs.Slots.{event_at, slots_of, cleared}
 use Rattle.tokenizer.proofs.Blanks.{slots_none, cleared_all}
 use Rattle.tokenizer.specs.Events.{GfmTableCellDivider, SpaceOrTab, blank_event}
 use Rattle.edit_map.specs.declared.resolve_turn.Phase.{Phase}
@@ -21,10 +23,10 @@ use Rattle.edit_map.specs.declared.resolve_turn.Mode.{Mode}
 use Rattle.edit_map.specs.declared.resolve_turn.Turn.{Turn}
 use Rattle.edit_map.specs.declared.resolve_look.Look.{Look}
 use Rattle.edit_map.specs.declared.resolve_step.Cursor.{Cursor}
-use Rattle.edit_map.specs.Base.{most, plus_of, placed_at, is_row_name, is_text_name}
-use Rattle.edit_map.specs.Turns.{goes_on, plain, piece_turn, row_exit_turn, end_exit_turn, turn_in, turn_of}
+use Rattle.edit_map.specs.Base.{most, plus_of, is_text_name}
+use Rattle.edit_map.specs.Turns.{plain, piece_turn, turn_in, turn_of}
 use Rattle.edit_map.proofs.Stream.{first, rest, onward, ahead_of, solid_of, turn_at}
-use Rattle.edit_map.specs.Cursors.{moves, look_step, look_all, is_piece, asks, reads, next_at, is_over, over_at, look_of, turn_here, next_of, front, stepped, given_to}
+use Rattle.edit_map.specs.Cursors.{moves, look_all, is_piece, asks, reads, next_at, is_over, over_at, look_of, turn_here, next_of, front, stepped, given_to}
 use Rattle.edit_map.proofs.Gives.{is_last, Gives, none, more}
 use Rattle.edit_map.specs.Tables.{Table, raw_tables, resolved_tables}
 use Rattle.edit_map.specs.Raw.{AreTables}
@@ -34,54 +36,6 @@ use Rattle.edit_order.proofs.Bools.{and_false, or_false, or_true}
 -- the look ahead at a cursor
 abbrev look_at : List Event → Cursor → Look
 look_at es c = look_of es c (event_at es c.at)
-
--- ## The record that a turn gives stands where the record at hand stands
-
-abbrev Stays : Event → Turn → Type 0
-Stays this t = placed_at this t.event ≡ t.event
-
-either_stays : (this : Event) (b : Bool) (t u : Turn) → Stays this t → Stays this u → Stays this (cond b t u)
-either_stays this true t u p q = p
-either_stays this false t u p q = q
-
-row_stays : (p : Part) (this next : Event) → Stays this (row_exit_turn p this next)
-row_stays Part.Head this next = refl
-row_stays Part.Delimiter this next = refl
-row_stays Part.Body this next = either_stays this (goes_on next) _ _ refl refl
-
-end_stays : (p : Part) (this : Event) → Stays this (end_exit_turn p this)
-end_stays Part.Head this = refl
-end_stays Part.Delimiter this = refl
-end_stays Part.Body this = refl
-
-piece-stays : (m : Mode) (this : Event) (a : ℕ) (s : Bool) → Stays this (piece_turn m this a s)
-unfolding piece_turn
-piece-stays m this a s =
-    either_stays this (is_row_name this.name) _ _ refl
-    (either_stays this (m.seen && (eqb this.name GfmTableCellDivider && s)) _ _ refl
-    (either_stays this (m.waits && is_text_name this.name) _ _ refl refl))
-
-stays_in : (h : Phase) (m : Mode) (this next : Event) (a : ℕ) (s : Bool) → Stays this (turn_in h m this next a s)
-stays_in Out m this next a s = refl
-stays_in Head m this next a s = refl
-stays_in Row m this next a s = refl
-stays_in Cell m this next a s = refl
-stays_in Piece m this next a s = piece-stays m this a s
-stays_in Exit m this next a s = refl
-stays_in Text m this next a s = refl
-stays_in Copy m this next a s = either_stays this (eqb m.left 0) _ _ refl refl
-stays_in Leave m this next a s = refl
-stays_in RowExit m this next a s = row_stays m.part this next
-stays_in HeadExit m this next a s = either_stays this (goes_on next) _ _ refl refl
-stays_in End m this next a s = refl
-stays_in EndExit m this next a s = end_stays m.part this
-stays_in Open m this next a s = refl
-stays_in BodyLeave m this next a s = refl
-stays_in TableLeave m this next a s = refl
-
-pub placed-is : (es : List Event) (c : Cursor) → placed_at (event_at es c.at) (turn_here es c).event ≡ (turn_here es c).event
-unfolding turn_here
-placed-is es c = stays_in c.mode.phase c.mode (event_at es c.at) (next_at es c) (look_at es c).ahead (look_at es c).solid
 
 -- ## As many slots as there were
 
@@ -127,17 +81,8 @@ drop_two (e ∷ f ∷ es) = refl
 
 -- ## The look ahead finds what the stream asks
 
-abbrev looking : Bool → ℕ → ℕ → Bool → Bool → Look
-looking b n a s f = record { on = b; count = n; ahead = a; solid = s; brief = f }
-
-looks_off : (n a : ℕ) (s f : Bool) (es : List Event) → look_all (looking false n a s f) es ≡ looking false n a s f
-unfolding look_all look_step
-looks_off n a s f [] = refl
-looks_off n a s f (e ∷ es) = looks_off n a s f es
-
--- a look ahead that is off stays as it is, so a loop may stop there
-pub off_stays : (l : Look) (es : List Event) → l.on ≡ false → look_all l es ≡ l
-off_stays l es h = subst (λ (b : Bool). look_all (looking b l.count l.ahead l.solid l.brief) es ≡ looking b l.count l.ahead l.solid l.brief) (sym h) (looks_off l.count l.ahead l.solid l.brief es)
+abbrev looking : ℕ → ℕ → Bool → Bool → Look
+looking n a s f = record { count = n; ahead = a; solid = s; brief = f }
 
 -- where the last text ahead ends, from a place n records on, if there is one
 further : ℕ → ℕ → ℕ → ℕ
@@ -160,36 +105,42 @@ further_start zero = refl
 further_start (suc k) = omega arith
 
 abbrev Sees : List Event → Look → ℕ → Bool → Type 0
-Sees es l k z = ((look_all l es).ahead ≡ k) × ((look_all l es).solid ≡ z)
+Sees es l k z = ((look_all (Continue l) es).ahead ≡ k) × ((look_all (Continue l) es).solid ≡ z)
 
-looks : (es : List Event) (n a : ℕ) (s : Bool) → n + length es ≤ most → Sees es (looking true n a s false) (further a n (ahead_of es)) (s || solid_of es)
-unfolding look_all look_step ahead_of solid_of further
+looks : (es : List Event) (n a : ℕ) (s : Bool) → n + length es ≤ most → Sees es (looking n a s false) (further a n (ahead_of es)) (s || solid_of es)
+unfolding look_all ahead_of solid_of further
 looks [] n a s h = (refl, sym (or_false s))
 looks (e ∷ es) n a s h = go (plus_of n 1) (plus_fits n 1 (omega arith)) (eqb e.name SpaceOrTab) (is_text_name e.name) (λ m q b z. looks es m b z (omega arith))
   where
     d : Bool
     d = eqb e.name GfmTableCellDivider
 
-    go : (m : ℕ) → m ≡ n + 1 → (p t : Bool) → ((k : ℕ) → k ≡ n + 1 → (b : ℕ) (z : Bool) → Sees es (looking true k b z false) (further b k (ahead_of es)) (z || solid_of es))
-        → Sees es (cond p (looking true m a s false) (cond t (looking true m m true false) (looking false n a (s || d) false))) (further a n (cond p (onward (ahead_of es)) (cond t (suc (ahead_of es)) 0))) (s || cond p (solid_of es) (t || d))
+    next : ℕ → Bool → Bool → ControlFlow Look Look
+    next m p t = cond p (Continue (looking m a s false)) (cond t (Continue (looking m m true false)) (Break (looking n a (s || d) false)))
+
+    go : (m : ℕ) → m ≡ n + 1 → (p t : Bool) → ((k : ℕ) → k ≡ n + 1 → (b : ℕ) (z : Bool) → Sees es (looking k b z false) (further b k (ahead_of es)) (z || solid_of es))
+        → ((look_all (next m p t) es).ahead ≡ further a n (cond p (onward (ahead_of es)) (cond t (suc (ahead_of es)) 0))) × ((look_all (next m p t) es).solid ≡ s || cond p (solid_of es) (t || d))
     go m q true t ih = ((ih m q a s).0 ∙ further_space a n m (ahead_of es) q, (ih m q a s).1)
     go m q false true ih = ((ih m q m true).0 ∙ further_text n m (ahead_of es) q, (ih m q m true).1 ∙ sym (or_true s))
-    go m q false false ih = (ap (λ (l : Look). l.ahead) (looks_off n a (s || d) false es), ap (λ (l : Look). l.solid) (looks_off n a (s || d) false es))
+    go m q false false ih = (refl, refl)
 
 -- a brief look finds whether something solid comes
-briefly : (es : List Event) (n a : ℕ) (s : Bool) → (look_all (looking true n a s true) es).solid ≡ s || solid_of es
-unfolding look_all look_step solid_of
+briefly : (es : List Event) (n a : ℕ) (s : Bool) → (look_all (Continue (looking n a s true)) es).solid ≡ s || solid_of es
+unfolding look_all solid_of
 briefly [] n a s = sym (or_false s)
 briefly (e ∷ es) n a s = go (plus_of n 1) (eqb e.name SpaceOrTab) (is_text_name e.name) (λ m. briefly es m a s)
   where
     d : Bool
     d = eqb e.name GfmTableCellDivider
 
-    go : (m : ℕ) (p t : Bool) → ((k : ℕ) → (look_all (looking true k a s true) es).solid ≡ s || solid_of es)
-        → (look_all (cond p (looking true m a s true) (cond t (looking false m m true true) (looking false n a (s || d) true))) es).solid ≡ s || cond p (solid_of es) (t || d)
+    next : ℕ → Bool → Bool → ControlFlow Look Look
+    next m p t = cond p (Continue (looking m a s true)) (cond t (Break (looking m m true true)) (Break (looking n a (s || d) true)))
+
+    go : (m : ℕ) (p t : Bool) → ((k : ℕ) → (look_all (Continue (looking k a s true)) es).solid ≡ s || solid_of es)
+        → (look_all (next m p t) es).solid ≡ s || cond p (solid_of es) (t || d)
     go m true t ih = ih m
-    go m false true ih = ap (λ (l : Look). l.solid) (looks_off m m true true es) ∙ sym (or_true s)
-    go m false false ih = ap (λ (l : Look). l.solid) (looks_off n a (s || d) true es)
+    go m false true ih = sym (or_true s)
+    go m false false ih = refl
 
 -- ## A step is a turn
 
@@ -298,13 +249,13 @@ module _ (es : List Event) (fits : length es ≤ most) where
   abbrev beyond : ℕ → List Event
   beyond i = rest (rest (drop i es))
 
-  looks_at : (i : ℕ) → Sees (drop (plus_of i 2) es) (looking true 1 1 false false) (suc (ahead_of (beyond i))) (solid_of (beyond i))
+  looks_at : (i : ℕ) → Sees (drop (plus_of i 2) es) (looking 1 1 false false) (suc (ahead_of (beyond i))) (solid_of (beyond i))
   looks_at i =
       let fits-too : 1 + length (beyond i) ≤ most = rw (← drop_two (drop i es)) (simp length-drop (omega arith)) in
       let seen = looks (beyond i) 1 1 false fits-too in
       rw (drop_plus es i 2 fits ∙ drop_two (drop i es)) (seen.0 ∙ further_start (ahead_of (beyond i)), seen.1)
 
-  briefly_at : (i : ℕ) → (look_all (looking true 1 1 false true) (drop (plus_of i 2) es)).solid ≡ solid_of (beyond i)
+  briefly_at : (i : ℕ) → (look_all (Continue (looking 1 1 false true)) (drop (plus_of i 2) es)).solid ≡ solid_of (beyond i)
   briefly_at i = rw (drop_plus es i 2 fits ∙ drop_two (drop i es)) (briefly (beyond i) 1 1 false)
 
   -- the turn with the next record read is that with the one that a step reads
@@ -326,7 +277,7 @@ module _ (es : List Event) (fits : length es ≤ most) where
       next = event_at es (plus_of c.at 1)
 
       look : Bool → Bool → Look
-      look b f = cond b (look_all (looking true 1 1 false f) (drop (plus_of c.at 2) es)) (looking true 1 1 false f)
+      look b f = cond b (look_all (Continue (looking 1 1 false f)) (drop (plus_of c.at 2) es)) (looking 1 1 false f)
 
       there : (a : ℕ) (s : Bool) → a ≡ suc (ahead_of (beyond c.at)) → s ≡ solid_of (beyond c.at) → turn_of c.mode this next a s ≡ turn_at c.mode (drop c.at es)
       there a s p q = turn-same c.mode (event_at_lem es c.at) (after-at c.at) p q
@@ -361,12 +312,12 @@ module _ (es : List Event) (fits : length es ≤ most) where
   fill_step y ys {c} s e = rw (over-is s ∙ e) (ap (λ (t : Turn). t.event ∷ stepped es (moves c t) ys) (turns s))
 
   -- where there are slots for all records that are to be given, these stand in them, once the slots behind are cleared
-  pub fills : {m : Mode} {l out : List Event} → Gives m l out (plain Out Part.Head) [] → {c : Cursor} → Stands c m l → (ys : List Event) → length out ≤ length ys → cleared_from (length out) (stepped es c ys) ≡ slots_of (length ys) out
+  pub fills : {m : Mode} {l out : List Event} → Gives m l out (plain Out Part.Head) [] → {c : Cursor} → Stands c m l → (ys : List Event) → length out ≤ length ys → cleared blank_event (length out) (stepped es c ys) ≡ slots_of (length ys) out
   unfolding cleared slots_of
   fills none {c} s ys h = cleared_all (stepped es c ys) ∙ ap (λ (k : ℕ). replicate k blank_event) (as_many es c ys) ∙ sym (slots_none (length ys))
   fills (more e g) s [] h = absurd (omega arith)
   fills (more {m = m} {es = l} {out = out} e g) {c} s (y ∷ ys) h =
-      ap (cleared_from (suc (length out))) (fill_step y ys s e)
+      ap (cleared blank_event (suc (length out))) (fill_step y ys s e)
       ∙ ap (λ (r : List Event). (turn_at m l).event ∷ r) (fills g (moves_on s) ys (omega arith))
 
   -- ## The end, and the number of records given
@@ -383,7 +334,7 @@ module _ (es : List Event) (fits : length es ≤ most) where
 
 -- ## The resolver's stream: for a list of raw tables, what it gives, and how many records it gave
 pub record Resolves (es out ys : List Event) : Type 0 where
-  pub records : length out ≤ length ys → cleared_from (length out) (stepped es front ys) ≡ slots_of (length ys) out
+  pub records : length out ≤ length ys → cleared blank_event (length out) (stepped es front ys) ≡ slots_of (length ys) out
   pub count : given_to es 0 (length ys) front ≡ cond (leb (length out) (length ys)) (Some (length out)) None
 
 pub resolves : {ts : List Table} → AreTables ts → length (raw_tables ts) ≤ most → (ys : List Event) → Resolves (raw_tables ts) (resolved_tables ts) ys

@@ -1,6 +1,5 @@
 -- What the definitions of the resolver share.
 use Rattle.std.specs.Prelude.{ℕ, ◌+◌, min, Bool, ◌||◌, eqb}
-use Rattle.tokenizer.specs.declared.event.Event.{Event}
 use Rattle.tokenizer.specs.Events.{Data, GfmTableRow, GfmTableDelimiterRow, GfmTableDelimiterMarker, GfmTableDelimiterFiller}
 
 -- the largest usize
@@ -10,10 +9,6 @@ most = 18446744073709551615
 -- a sum that stops there
 abbrev pub plus_of : ℕ → ℕ → ℕ
 plus_of a b = min (a + b) most
-
--- the event e, at the point of the event o
-abbrev pub placed_at : Event → Event → Event
-placed_at o e = record { kind = e.kind; name = e.name; line = o.line; column = o.column; index = o.index; vs = o.vs; link = e.link }
 
 -- the name of a row
 abbrev pub is_row_name : ℕ → Bool

@@ -1,11 +1,11 @@
 -- The cells of a row, written to slots by the places of its bytes: one piece, or one text, in each step.
-use Rattle.std.specs.Prelude.{ℕ, ◌+◌, List, Bool, true, false, cond, ◌||◌, ◌&&◌, not, eqb, length, drop, set, Option, Some, None}
+use Rattle.std.specs.Prelude.{ℕ, ◌+◌, List, ◌∷◌, ◌++◌, Bool, true, false, cond, ◌||◌, ◌&&◌, not, eqb, length, drop, Option, Some, None}
 use Rattle.tokenizer.specs.declared.event.Point.{Point}
 use Rattle.tokenizer.specs.declared.event.Event.{Event}
 use Rattle.tokenizer.specs.Lines.{line_body}
 use Rattle.tokenizer.specs.Moves.{rest_of}
 use Rattle.tokenizer.specs.Points.{past}
-use Rattle.tokenizer.specs.Slots.{slot_if, past_if, wrote}
+use Rattle.tokenizer.specs.Slots.{past_if, event_if, wrote}
 use Rattle.tokenizer.specs.Events.{Data, GfmTableCell, GfmTableCellText, GfmTableDelimiterCell, GfmTableDelimiterCellValue, SpaceOrTab, number, enter, leave}
 use Rattle.gfm_table.specs.declared.stream.Part.{Part}
 use Rattle.gfm_table.specs.declared.stream.Part.TheVariants.{Head, Delimiter, Body}
@@ -16,10 +16,9 @@ use Rattle.gfm_table.specs.Stream.{pieces_of}
 use Rattle.gfm_table.specs.Places.{point_in, next_at}
 use Rattle.edit_map.specs.declared.cell_steps.Within.{Within}
 use Rattle.edit_map.specs.declared.cell_steps.Step.{Step}
-use Rattle.edit_map.specs.declared.cell_steps.Slots.{Slots}
 use Rattle.edit_map.specs.Base.{is_text_name}
 use Rattle.edit_map.specs.Tables.{cells, row_inner, delimiter_inner, cell_events}
-use Rattle.edit_map.specs.Cells.{last_ahead}
+use Rattle.edit_map.specs.Cells.{last_ahead, cell_opened}
 use Rattle.edit_map.specs.Spans.{opens_at, text_next, pieces_from}
 
 -- ## The two kinds of rows
@@ -84,29 +83,17 @@ step_over kind s w (Some x) =
 unfoldable pub step_of : (ℕ → ℕ) → List ℕ → Part → Within → Option Step
 step_of kind s part w = step_over kind s w (next_at w.at w.column (pieces_of kind part (line_body (drop w.at s))))
 
--- the slots of a step's events, and the next one
-abbrev pub slots_in : Step → Slots
-slots_in x =
-    let a = past_if x.opens x.slot in
-    let b = past_if x.opens a in
-    let c = past_if x.enters b in
-    record {
-      left = slot_if x.opens x.slot;
-      entered = slot_if x.opens a;
-      opened = slot_if x.enters b;
-      begin = c;
-      finish = c + 1;
-      closed = slot_if x.leaves (c + 2);
-      next = past_if x.leaves (c + 2);
-    }
+-- the slot behind a step's events
+abbrev pub next_of : Step → ℕ
+next_of x = past_if x.leaves (past_if x.enters (past_if x.opens (past_if x.opens x.slot)) + 2)
 
 -- before the first step of a row whose first cell is entered in the slot k
 abbrev pub first_within : ℕ → ℕ → Within
 first_within i k = record { at = i; column = 1; slot = k + 1; seen = false; waits = true }
 
--- behind a step
-abbrev pub behind : Step → Within
-behind x = record { at = x.end; column = x.stop; slot = (slots_in x).next; seen = x.seen; waits = x.waits }
+-- behind a step, k the next slot
+abbrev pub behind : ℕ → Step → Within
+behind k x = record { at = x.end; column = x.stop; slot = k; seen = x.seen; waits = x.waits }
 
 -- where a step starts, in the line l
 abbrev pub start_of : ℕ → Step → Point
@@ -120,15 +107,14 @@ stop_of l x = point_in l x.end x.stop
 abbrev pub entry_in : ℕ → Step → Event
 entry_in l x = record { kind = 1; name = number x.name; line = l; column = x.column; index = x.at; vs = 0; link = cond x.linked 1 0 }
 
--- the slots with a step's events: a cell is left and one is entered, a text or value is entered, the piece is entered and left, the text or value is left
-abbrev pub step_put : Part → ℕ → Step → Slots → List Event → List Event
-step_put part l x k zs =
-    let a = set zs k.left (leave (cell_of part) (start_of l x)) in
-    let b = set a k.entered (enter (cell_of part) (start_of l x)) in
-    let c = set b k.opened (enter (value_of part) (start_of l x)) in
-    let d = set c k.begin (entry_in l x) in
-    let e = set d k.finish (leave (number x.name) (stop_of l x)) in
-    set e k.closed (leave (value_of part) (stop_of l x))
+-- the events of a step: a cell is left and one is entered, a text or value is entered, the piece is entered and left, the text or value is left
+abbrev pub step_events : Part → ℕ → Step → List Event
+step_events part l x =
+    cell_opened (cell_of part) x.opens (start_of l x) ++ (event_if x.enters (enter (value_of part) (start_of l x)) ++ (entry_in l x ∷ leave (number x.name) (stop_of l x) ∷ event_if x.leaves (leave (value_of part) (stop_of l x))))
+
+-- the slots with them
+abbrev pub step_put : Part → ℕ → Step → List Event → List Event
+step_put part l x zs = wrote x.slot (step_events part l x) zs
 
 -- ## A row
 

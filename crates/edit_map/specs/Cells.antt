@@ -34,10 +34,6 @@ from_within within n inner p cs = within (first_cell cs) ++ leave n (boundary (o
 abbrev pub tail : ℕ → (List Passed → List Event) → Point → Bool → List Passed → List Event
 tail n inner p seen xs = from_within inner n inner p (cells seen xs)
 
--- a value is entered before a mark
-abbrev pub value_entered : Bool → Passed → List Event
-value_entered begins x = event_if begins (enter GfmTableDelimiterCellValue (point_of x.entry))
-
 -- a value is left behind a mark
 abbrev pub value_left : Bool → Passed → List Event
 value_left ends x = event_if ends (leave GfmTableDelimiterCellValue (point_of x.exit))

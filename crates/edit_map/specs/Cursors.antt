@@ -1,5 +1,7 @@
 -- The stream as the code runs it: by a cursor that holds a place of the list, and a look ahead where the mode asks for one.
 use Rattle.std.specs.Prelude.{ℕ, zero, suc, List, [], ◌∷◌, Bool, true, false, cond, ◌||◌, ◌&&◌, not, eqb, drop, Option, Some, None}
+use Rattle.std.specs.declared.ops.ControlFlow.{ControlFlow}
+use Rattle.std.specs.declared.ops.ControlFlow.TheVariants.{Continue, Break}
 use Rattle.tokenizer.specs.declared.event.Event.{Event}
 use Rattle.tokenizer.specs.Slots.{event_at}
 use Rattle.tokenizer.specs.Events.{GfmTableCellDivider, SpaceOrTab, blank_event}
@@ -17,23 +19,24 @@ use Rattle.edit_map.specs.Turns.{is_out, plain, turn_of}
 
 -- from the piece at hand: its own exit is 1 record ahead; at a divider a brief look is enough
 abbrev pub look_start : Event → Look
-look_start this = record { on = true; count = 1; ahead = 1; solid = false; brief = eqb this.name GfmTableCellDivider }
+look_start this = record { count = 1; ahead = 1; solid = false; brief = eqb this.name GfmTableCellDivider }
 
--- one more record; n is the count with it; a brief look ends where something solid is found
-abbrev pub look_on : ℕ → Look → Event → Look
+-- a look goes on behind a text, or ends there if it is brief
+abbrev pub look_text : Look → ControlFlow Look Look
+look_text l = cond l.brief (Break l) (Continue l)
+
+-- one more record, n the count with it; a look ends at what is neither whitespace nor text
+abbrev pub look_on : ℕ → Look → Event → ControlFlow Look Look
 look_on n l e =
-    cond (eqb e.name SpaceOrTab) (record { on = true; count = n; ahead = l.ahead; solid = l.solid; brief = l.brief })
-    (cond (is_text_name e.name) (record { on = not l.brief; count = n; ahead = n; solid = true; brief = l.brief })
-    (record { on = false; count = l.count; ahead = l.ahead; solid = l.solid || eqb e.name GfmTableCellDivider; brief = l.brief }))
+    cond (eqb e.name SpaceOrTab) (Continue (record { count = n; ahead = l.ahead; solid = l.solid; brief = l.brief }))
+    (cond (is_text_name e.name) (look_text (record { count = n; ahead = n; solid = true; brief = l.brief }))
+    (Break (record { count = l.count; ahead = l.ahead; solid = l.solid || eqb e.name GfmTableCellDivider; brief = l.brief })))
 
--- one more record; once it is off it stays
-unfoldable pub look_step : Look → Event → Look
-look_step l e = cond l.on (look_on (plus_of l.count 1) l e) l
-
--- the records behind a piece
-unfoldable pub look_all : Look → List Event → Look
-look_all l [] = l
-look_all l (e ∷ es) = look_all (look_step l e) es
+-- the records behind a piece, up to where the look ends
+unfoldable pub look_all : ControlFlow Look Look → List Event → Look
+look_all (Break l) es = l
+look_all (Continue l) [] = l
+look_all (Continue l) (e ∷ es) = look_all (look_on (plus_of l.count 1) l e) es
 
 -- ## The cursor
 
@@ -58,7 +61,7 @@ moves c t = record { mode = t.mode; at = plus_of c.at t.by }
 
 -- the look ahead of a cursor, where it asks for one
 abbrev pub look_of : List Event → Cursor → Event → Look
-look_of es c this = cond (asks c.mode this) (look_all (look_start this) (drop (plus_of c.at 2) es)) (look_start this)
+look_of es c this = cond (asks c.mode this) (look_all (Continue (look_start this)) (drop (plus_of c.at 2) es)) (look_start this)
 
 -- the next record, where it is read, or a blank one
 abbrev pub next_at : List Event → Cursor → Event

@@ -3,7 +3,7 @@ use Rattle.std.specs.Prelude.{ℕ, zero, suc, ◌+◌, ◌-◌, ◌*◌, ◌≤�
 use Rattle.tokenizer.specs.declared.event.Event.{Event}
 use Rattle.edit_order.specs.declared.edit_slots.Edit.{Edit}
 use Rattle.edit_map.specs.declared.edit_walk.Cursor.{Cursor}
-use Rattle.edit_map.specs.declared.edit_walk.Cursor.TheVariants.{Between, Back, Forth, Done}
+use Rattle.edit_map.specs.declared.edit_walk.Cursor.TheVariants.{Between, Back, Forth}
 use Rattle.edit_map.specs.declared.edit_walk.Stepped.{Stepped}
 use Rattle.edit_map.specs.declared.edit_walk.Stepped.TheVariants as step
 use Rattle.edit_order.specs.EditFives.{no_edit}
@@ -46,24 +46,21 @@ forward pool es off (suc k) = drop off (back pool (get_or es 0 no_edit)) ++ back
 -- the records still to come
 abbrev pub to_come : List Event → List Event → List Edit → Cursor → List Event
 to_come list pool es (Between at i) = edited pool (drop i es) at 0 (drop at list)
-to_come list pool es (Back i s k off next) =
-    backward pool (drop i es) off k ++ (backs pool (take s (drop i es)) ++ edited pool (drop s (drop i es)) next 0 (drop next list))
-to_come list pool es (Forth i k off next) = forward pool (drop i es) off k ++ edited pool (drop k (drop i es)) next 0 (drop next list)
-to_come list pool es Done = []
+to_come list pool es (Back b) =
+    backward pool (drop b.edit es) b.off b.left ++ (backs pool (take b.size (drop b.edit es)) ++ edited pool (drop b.size (drop b.edit es)) b.next 0 (drop b.next list))
+to_come list pool es (Forth f) = forward pool (drop f.edit es) f.off f.left ++ edited pool (drop f.left (drop f.edit es)) f.next 0 (drop f.next list)
 
 -- a cursor stays within the edits and the list
 abbrev pub Stands : ℕ → List Edit → Cursor → Type 0
 Stands len es (Between at i) = (at ≤ len) × (i ≤ length es)
-Stands len es (Back i s k off next) = (next ≤ len) × (i + s ≤ length es) × (k ≤ s)
-Stands len es (Forth i k off next) = (next ≤ len) × (i + k ≤ length es)
-Stands len es Done = Unit {0}
+Stands len es (Back b) = (b.next ≤ len) × (b.edit + b.size ≤ length es) × (b.left ≤ b.size)
+Stands len es (Forth f) = (f.next ≤ len) × (f.edit + f.left ≤ length es)
 
 -- steps that give no record are at most this many
 abbrev pub steps : List Edit → Cursor → ℕ
 steps es (Between at i) = 5 * (length es - i)
-steps es (Back i s k off next) = 5 * (length es - (i + s)) + (k + s + 2)
-steps es (Forth i k off next) = 5 * (length es - (i + k)) + (k + 1)
-steps es Done = 0
+steps es (Back b) = 5 * (length es - (b.edit + b.size)) + (b.left + b.size + 2)
+steps es (Forth f) = 5 * (length es - (f.edit + f.left)) + (f.left + 1)
 
 -- edits that rise and fit, and a cursor within them
 pub record Ordered (len pool : ℕ) (es : List Edit) (c : Cursor) : Type 0 where
@@ -71,15 +68,8 @@ pub record Ordered (len pool : ℕ) (es : List Edit) (c : Cursor) : Type 0 where
   pub fit : edits_fit len pool es ≡ true
   pub stand : Stands len es c
 
--- what a cursor needs of the edits
-abbrev pub Ready : ℕ → ℕ → List Edit → Cursor → Type 0
-Ready len n es (Between at i) = Ordered len n es (Between at i)
-Ready len n es (Back i s k off next) = Ordered len n es (Back i s k off next)
-Ready len n es (Forth i k off next) = Ordered len n es (Forth i k off next)
-Ready len n es Done = Unit {0}
-
 -- what a step tells of what is still to come
 abbrev pub Steps : List Event → List Event → List Edit → Cursor → Stepped → Type 0
-Steps list pool es c (step.Gives e d) = Ready (length list) (length pool) es d × (to_come list pool es c ≡ e ∷ to_come list pool es d)
-Steps list pool es c (step.On d) = (steps es d < steps es c) × Ready (length list) (length pool) es d × (to_come list pool es c ≡ to_come list pool es d)
+Steps list pool es c (step.Gives e d) = Ordered (length list) (length pool) es d × (to_come list pool es c ≡ e ∷ to_come list pool es d)
+Steps list pool es c (step.On d) = (steps es d < steps es c) × Ordered (length list) (length pool) es d × (to_come list pool es c ≡ to_come list pool es d)
 Steps list pool es c step.End = to_come list pool es c ≡ []

@@ -1,17 +1,10 @@
--- Questions 11 and 12, and where the result records begin.
-use Rattle.std.specs.Prelude.{ℕ, List, Result, Ok, Err}
+-- Questions 11 and 12.
+use Rattle.std.specs.Prelude.{ℕ, List, Result}
 use Rattle.tokenizer.specs.declared.refusal.Refusal.{Refusal}
 use Rattle.edit_order.specs.declared.edit_slots.Edit.{Edit}
-use Rattle.edit_map.specs.declared.edit_walk.Cursor.{Cursor}
-use Rattle.edit_map.specs.declared.edit_walk.Cursor.TheVariants.{Between, Done}
 use Rattle.edit_order.specs.Edits.{edits_fit}
 use Rattle.edit_order.specs.EditCount.{result_count}
 use Rattle.edit_map.specs.EditAnswer.{answered}
-
--- before the first record; a refusal gives none
-abbrev pub start_of : Result ℕ Refusal → Cursor
-start_of (Ok n) = Between 0 0
-start_of (Err q) = Done
 
 -- the answer, of edits over a list, a pool and result slots of these numbers
 unfoldable pub settled : ℕ → ℕ → ℕ → List Edit → Result ℕ Refusal

@@ -7,7 +7,7 @@ use Rattle.edit_map.specs.declared.edit_walk.Cursor.{Cursor}
 use Rattle.edit_map.specs.declared.edit_walk.Stepped.{Stepped}
 use Rattle.edit_map.specs.declared.edit_walk.Walk.{Walk}
 use Rattle.edit_map.specs.declared.edit_walk.Records.{Records}
-use Rattle.edit_map.specs.EditCursor.{to_come, Ready, Steps}
+use Rattle.edit_map.specs.EditCursor.{to_come, Ordered, Steps}
 
 -- the records that are left
 abbrev pub left_of : Records → List Event
@@ -15,7 +15,7 @@ left_of r = to_come r.walk.list.now r.walk.pool.now (edits_of r.walk.edits.now) 
 
 -- the edits of a walk rise and fit, and a cursor is within them
 abbrev pub Fits : Walk → Cursor → Type 0
-Fits w c = Ready (length w.list.now) (length w.pool.now) (edits_of w.edits.now) c
+Fits w c = Ordered (length w.list.now) (length w.pool.now) (edits_of w.edits.now) c
 
 -- what a step of a walk tells of what is still to come
 abbrev pub Tells : Walk → Cursor → Stepped → Type 0

@@ -2,15 +2,15 @@
 ghost use Rattle.std.specs.Prelude.{◌≡◌, ◌≤◌, ◌<◌, ◌+◌, ◌*◌, length};
 ghost use Rattle.tokenizer.specs.Bytes.{kind_in};
 ghost use Rattle.tokenizer.specs.Events.{number};
-ghost use Rattle.edit_map.specs.CellRows.{cell_of, value_of, step_of, slots_in, first_within, behind, start_of as starts_at, stop_of as stops_at};
+ghost use Rattle.gfm_table.specs.Places.{Near};
+ghost use Rattle.edit_map.specs.CellRows.{cell_of, value_of, step_of, first_within, behind, start_of as starts_at, stop_of as stops_at};
 
 use crate::cell_spans::{opens, reach_from, text_next};
 use crate::resolve_base::is_text_name;
-use gfm_table::rows::{Reached, RowKind, next_piece};
+use gfm_table::rows::{Reached, RowKind, Stop, next_piece};
 use gfm_table::stream::Part;
 use tokenizer::event::{LineStart, Name, Point};
-use tokenizer::slots::{past_if, slot_if};
-use tokenizer::text::Text;
+use tokenizer::text::Sheet;
 
 // Inside a row's cell: the place, the column there, the next slot, which goes on past the slots where they are too few, whether a piece other than whitespace came, and whether the cell waits for a mark.
 #[derive(Clone, Copy)]
@@ -39,18 +39,6 @@ pub struct Step {
     pub waits: bool,
 }
 
-// The slots of a step's events, those past all slots where there is none, and the next slot.
-#[derive(Clone, Copy)]
-pub struct Slots {
-    pub left: usize,
-    pub entered: usize,
-    pub opened: usize,
-    pub begin: usize,
-    pub finish: usize,
-    pub closed: usize,
-    pub next: usize,
-}
-
 // The name of a row's cells.
 pub fn cell_name(part: Part) -> Name
     ensures { number result ≡ cell_of part }
@@ -72,15 +60,16 @@ pub fn value_name(part: Part) -> Name
 }
 
 // The step over the next piece of a row, if one is left.
-pub fn next_step<R: RowKind>(text: &Text, w: Within) -> Option<Step>
-    requires { (length text.now.bytes.now ≤ 65536) × (w.at ≤ length text.now.bytes.now) × (w.column ≤ 4 * w.at + 1) }
+pub fn next_step<R: RowKind>(text: &Sheet, w: Within) -> Option<Step>
+    requires { Near text.now.bytes.now (record { at = w.at; column = w.column }) }
     ensures { result ≡ step_of (kind_in text.now.kinds.now) text.now.bytes.now R.part w }
 {
-    let x = next_piece::<R>(text, w.at, w.column)?;
-    let opened = opens(text, w.seen, x.name, x.end as usize);
+    let x = next_piece::<R>(text, w.stop())?;
+    let opened = opens(text, w.seen, x.name as u8, x.end as usize);
     let y = reach_from(text, x);
     let data = x.name == Name::Data;
     let solid = x.name != Name::SpaceOrTab;
+    // By its number, as records are asked: another question for names would be a twin.
     let mark = is_text_name(x.name as u8);
     let delimits = mark & !data;
     let more = delimits && text_next(text, x.end as usize);
@@ -115,6 +104,14 @@ impl Within {
         }
     }
 
+    // The place, and the column there.
+    pub fn stop(self) -> Stop
+        ensures { result ≡ record { at = self.at; column = self.column } }
+    {
+        let Within { at, column, .. } = self;
+        Stop { at, column }
+    }
+
     // Where a row ends whose last cell is left in the next slot.
     pub fn reached(self) -> Reached
         requires { self.slot < 1000000000000 }
@@ -129,34 +126,14 @@ impl Within {
 }
 
 impl Step {
-    // The slots of its events.
-    pub fn slots(self) -> Slots
-        requires { self.slot < 1000000000000 }
-        ensures { result ≡ slots_in self }
-    {
-        let a = past_if(self.opens, self.slot);
-        let b = past_if(self.opens, a);
-        let c = past_if(self.enters, b);
-        Slots {
-            left: slot_if(self.opens, self.slot),
-            entered: slot_if(self.opens, a),
-            opened: slot_if(self.enters, b),
-            begin: c,
-            finish: c + 1,
-            closed: slot_if(self.leaves, c + 2),
-            next: past_if(self.leaves, c + 2),
-        }
-    }
-
-    // Behind it.
-    pub fn behind(self) -> Within
-        requires { self.slot < 1000000000000 }
-        ensures { result ≡ behind self }
+    // Behind it, with the next slot.
+    pub fn behind(self, next: usize) -> Within
+        ensures { result ≡ behind next self }
     {
         Within {
             at: self.end,
             column: self.stop,
-            slot: self.slots().next,
+            slot: next,
             seen: self.seen,
             waits: self.waits,
         }
@@ -166,23 +143,13 @@ impl Step {
     pub fn start(self, line: u32) -> Point
         ensures { result ≡ starts_at line self }
     {
-        Point {
-            line,
-            column: self.column,
-            index: self.at,
-            vs: 0,
-        }
+        Point::new(line, self.column, self.at)
     }
 
     // Where it ends.
     pub fn finish(self, line: u32) -> Point
         ensures { result ≡ stops_at line self }
     {
-        Point {
-            line,
-            column: self.stop,
-            index: self.end,
-            vs: 0,
-        }
+        Point::new(line, self.stop, self.end)
     }
 }

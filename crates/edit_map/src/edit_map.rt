@@ -10,6 +10,7 @@ use crate::edit_walk::{Cursor, Records, Walk};
 use edit_order::{edit_count, edit_fits, edit_sort};
 use tokenizer::event::Event;
 use tokenizer::refusal::Refusal;
+use tokenizer::slots::clear_from;
 
 // Questions 11 and 12, and then the order of the edit slots. A refused edit leaves them as they came.
 fn settle(edits: &mut [usize], len: usize, pool: usize, slots: usize) -> Result<usize, Refusal>
@@ -19,9 +20,7 @@ fn settle(edits: &mut [usize], len: usize, pool: usize, slots: usize) -> Result<
     if !edit_fits::fits(edits, len, pool) {
         return Err(Refusal::EditsDoNotFit);
     }
-    let Some(n) = edit_count::count(edits, len, slots) else {
-        return Err(Refusal::TooFewResultSlots);
-    };
+    let n = edit_count::count(edits, len, slots).ok_or(Refusal::TooFewResultSlots)?;
     edit_sort::sort(edits);
     Ok(n)
 }
@@ -49,11 +48,13 @@ pub fn edit(
         × (results.new ≡ edit_results list.now edits.old pool.now (length results.old))) }
 {
     let answer = settle(edits, list.len(), pool.len(), results.len());
-    let walk = Walk { list, edits, pool };
-    let cursor = match answer {
-        Ok(_) => Cursor::Between { at: 0, edit: 0 },
-        Err(_) => Cursor::Done,
-    };
-    fill(Records { walk, cursor }, results);
+    match answer {
+        Ok(_) => {
+            let walk = Walk { list, edits, pool };
+            let cursor = Cursor::Between { at: 0, edit: 0 };
+            fill(Records { walk, cursor }, results);
+        }
+        Err(_) => clear_from(results, 0, Event::BLANK),
+    }
     answer
 }

@@ -7,6 +7,7 @@ ghost use Rattle.edit_map.specs.Records.{left_of, Fits, Tells, CanGive, Gives};
 ghost use Rattle.std.specs.Iterator.{item_count};
 
 use edit_order::edit_slots;
+use edit_order::edit_slots::Edit;
 use tokenizer::event::Event;
 
 // Edits of one position, side by side: how many, and what they remove together.
@@ -16,32 +17,33 @@ pub struct Group {
     pub removes: usize,
 }
 
+// Among the additions that go before, of `size` edits at one position from number `edit` on: those of the first `left` edits are to come, the
+// last first. Of the current one `off` records have come. The list goes on at `next`.
+#[derive(Clone, Copy)]
+pub struct Backward {
+    pub edit: usize,
+    pub size: usize,
+    pub left: usize,
+    pub off: usize,
+    pub next: usize,
+}
+
+// Among the other additions, of which those of `left` edits from number `edit` on are to come, the first first.
+#[derive(Clone, Copy)]
+pub struct Forward {
+    pub edit: usize,
+    pub left: usize,
+    pub off: usize,
+    pub next: usize,
+}
+
 // Where the result is taken from next.
 #[derive(Clone, Copy)]
 pub enum Cursor {
     // Position `at` of the list is next; the edits from number `edit` on are to come.
-    Between {
-        at: usize,
-        edit: usize,
-    },
-    // Of `size` edits at one position from number `edit` on, the additions that go before are next, those of the first `left` edits, the
-    // last first. Of the current one `off` records have come. The list goes on at `next`.
-    Back {
-        edit: usize,
-        size: usize,
-        left: usize,
-        off: usize,
-        next: usize,
-    },
-    // The other additions of `left` edits from number `edit` on are next, the first first.
-    Forth {
-        edit: usize,
-        left: usize,
-        off: usize,
-        next: usize,
-    },
-    // Nothing is to come.
-    Done,
+    Between { at: usize, edit: usize },
+    Back(Backward),
+    Forth(Forward),
 }
 
 // A step of the cursor: a record and the cursor behind it, another cursor, or the end.
@@ -76,8 +78,8 @@ fn gather(edits: &[usize], i: usize, at: usize) -> Group
         size: 0,
         removes: 0,
     };
-    for j in i..edit_slots::number(edits) {
-        let e = edit_slots::get(edits, j);
+    for group in &edit_slots::groups(edits)[i..] {
+        let e = Edit::from(*group);
         if e.at != at {
             return g;
         }
@@ -102,13 +104,13 @@ impl Walk<'_> {
             }
             if e.at == at {
                 let g = gather(self.edits, edit, at);
-                return Stepped::On(Cursor::Back {
+                return Stepped::On(Cursor::Back(Backward {
                     edit,
                     size: g.size,
                     left: g.size,
                     off: 0,
                     next: at + g.removes,
-                });
+                }));
             }
         }
         if at < self.list.len() {
@@ -118,66 +120,58 @@ impl Walk<'_> {
     }
 
     // A step over the additions that go before.
-    fn back(self, edit: usize, size: usize, left: usize, off: usize, next: usize) -> Stepped
-        requires { Fits self (Cursor.Back edit size left off next) }
-        ensures { Tells self.entry (Cursor.Back edit size left off next) result }
+    fn back(self, b: Backward) -> Stepped
+        requires { Fits self (Cursor.Back b) }
+        ensures { Tells self.entry (Cursor.Back b) result }
     {
-        if left == 0 {
-            return Stepped::On(Cursor::Forth {
-                edit,
-                left: size,
+        if b.left == 0 {
+            return Stepped::On(Cursor::Forth(Forward {
+                edit: b.edit,
+                left: b.size,
                 off: 0,
-                next,
-            });
+                next: b.next,
+            }));
         }
-        let e = edit_slots::get(self.edits, edit + (left - 1));
-        if e.before != 0 && off < e.adds {
-            return Stepped::Gives(
-                self.pool[e.from + off],
-                Cursor::Back {
-                    edit,
-                    size,
-                    left,
-                    off: off + 1,
-                    next,
-                },
-            );
+        let e = edit_slots::get(self.edits, b.edit + (b.left - 1));
+        if e.before != 0 && b.off < e.adds {
+            let on = Backward {
+                off: b.off + 1,
+                ..b
+            };
+            return Stepped::Gives(self.pool[e.from + b.off], Cursor::Back(on));
         }
-        Stepped::On(Cursor::Back {
-            edit,
-            size,
-            left: left - 1,
+        Stepped::On(Cursor::Back(Backward {
+            left: b.left - 1,
             off: 0,
-            next,
-        })
+            ..b
+        }))
     }
 
     // A step over the other additions.
-    fn forth(self, edit: usize, left: usize, off: usize, next: usize) -> Stepped
-        requires { Fits self (Cursor.Forth edit left off next) }
-        ensures { Tells self.entry (Cursor.Forth edit left off next) result }
+    fn forth(self, f: Forward) -> Stepped
+        requires { Fits self (Cursor.Forth f) }
+        ensures { Tells self.entry (Cursor.Forth f) result }
     {
-        if left == 0 {
-            return Stepped::On(Cursor::Between { at: next, edit });
+        if f.left == 0 {
+            return Stepped::On(Cursor::Between {
+                at: f.next,
+                edit: f.edit,
+            });
         }
-        let e = edit_slots::get(self.edits, edit);
-        if e.before == 0 && off < e.adds {
-            return Stepped::Gives(
-                self.pool[e.from + off],
-                Cursor::Forth {
-                    edit,
-                    left,
-                    off: off + 1,
-                    next,
-                },
-            );
+        let e = edit_slots::get(self.edits, f.edit);
+        if e.before == 0 && f.off < e.adds {
+            let on = Forward {
+                off: f.off + 1,
+                ..f
+            };
+            return Stepped::Gives(self.pool[e.from + f.off], Cursor::Forth(on));
         }
-        Stepped::On(Cursor::Forth {
-            edit: edit + 1,
-            left: left - 1,
+        Stepped::On(Cursor::Forth(Forward {
+            edit: f.edit + 1,
+            left: f.left - 1,
             off: 0,
-            next,
-        })
+            ..f
+        }))
     }
 
     // One step: a record, or on to the next edit.
@@ -187,20 +181,8 @@ impl Walk<'_> {
     {
         match c {
             Cursor::Between { at, edit } => self.between(at, edit),
-            Cursor::Back {
-                edit,
-                size,
-                left,
-                off,
-                next,
-            } => self.back(edit, size, left, off, next),
-            Cursor::Forth {
-                edit,
-                left,
-                off,
-                next,
-            } => self.forth(edit, left, off, next),
-            Cursor::Done => Stepped::End,
+            Cursor::Back(b) => self.back(b),
+            Cursor::Forth(f) => self.forth(f),
         }
     }
 }

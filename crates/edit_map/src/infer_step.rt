@@ -16,7 +16,8 @@ pub enum Alignment {
     Center = 4,
 }
 
-// How far a table is read for its alignments. `Failed` is one of these, no `None` around them: each step would match once more.
+// How far a table is read for its alignments. `Failed` is one of these: with an `Option` around them seven results of steps would stand in
+// `Some`, and `fill_alignments`, which reads on only in a table that was read to its end before, would carry a `None` that never comes.
 #[derive(Clone, Copy, PartialEq, Eq)]
 pub enum Stage {
     Opening,
@@ -181,9 +182,6 @@ impl Aligning {
     pub fn slot(self) -> u8
         ensures { result ≡ slot_of self.given }
     {
-        match self.given {
-            Some(a) => a.number(),
-            None => 0,
-        }
+        self.given.map_or(0, Alignment::number)
     }
 }

@@ -12,35 +12,34 @@ use crate::resolve_accept::Reading;
 use crate::resolve_base::rest_from;
 use crate::resolve_look::Look;
 use crate::resolve_step::Cursor;
+use std::ops::ControlFlow;
 use tokenizer::event::Event;
 use tokenizer::refusal::Refusal;
 use tokenizer::slots::{at_or_blank, clear_from};
 
-// A list read to its end.
-#[tactic(auto, unfolding(crate::specs::Accept::read_all))]
-fn accept(list: &[Event]) -> Reading
+// A list read up to its end, or to a record that no list of raw tables has there.
+fn accept(list: &[Event]) -> Option<Reading>
     ensures { result ≡ read_all (at Start Part.Head) list.now }
 {
-    list.iter().fold(Reading::START, |r, e| r.step(*e))
+    list.iter().try_fold(Reading::START, |r, e| r.step(*e))
 }
 
-// The look ahead behind the piece at a cursor, where it asks for one.
+// The look ahead behind the piece at a cursor, where it asks for one, or its start. No `Option`: each turn takes a look, and most read none.
 fn look_ahead(list: &[Event], c: Cursor, this: Event) -> Look
     ensures { result ≡ look_of list.now c this }
 {
-    let mut look = Look::start(this);
-    if c.mode.asks(this) {
-        for e in rest_from(list, c.at.saturating_add(2)) {
-            if !look.on {
-                return look;
-            }
-            look = look.step(*e);
-        }
+    let start = Look::start(this);
+    if !c.mode.asks(this) {
+        return start;
     }
-    look
+    let behind = rest_from(list, c.at.saturating_add(2));
+    match behind.iter().try_fold(start, |l, e| l.further(*e)) {
+        ControlFlow::Continue(l) => l,
+        ControlFlow::Break(l) => l,
+    }
 }
 
-// The record behind the one at a cursor, where the next turn reads it, or a blank one.
+// The record behind the one at a cursor, where the next turn reads it, or a blank one. No `Option`: only two phases read it; the others would carry a `None` that no one asks.
 fn next_at(list: &[Event], c: Cursor) -> Event
     ensures { result ≡ next_at list.now c }
 {
@@ -66,8 +65,9 @@ impl Stream<'_> {
         self.cursor.is_over(at_or_blank(self.list, self.cursor.at))
     }
 
-    // The event of the next turn, which stands where the record at hand stands. It is no `Iterator`: of a list that is not accepted the
-    // events may never end, and a loop that calls one has to be proved to end.
+    // The event of the next turn. It is no `Iterator`. This was tried: the `impl` is proved, but a `for` over the slots whose body calls
+    // `next` asks to prove that the events end, which those of a list that is not accepted need not. `zip` joins slots and events, but the
+    // loop's invariant cannot name what the slots hold.
     fn next(&mut self) -> Option<Event>
         ensures { Streams self.old result self.new }
     {
@@ -79,12 +79,7 @@ impl Stream<'_> {
         let look = look_ahead(self.list, c, this);
         let t = c.mode.turn(this, next_at(self.list, c), look);
         self.cursor = c.after(t);
-        Some(Event {
-            kind: t.event.kind,
-            name: t.event.name,
-            link: t.event.link,
-            ..this
-        })
+        Some(t.event)
     }
 }
 
@@ -111,7 +106,7 @@ fn resolve_into(list: &[Event], results: &mut [Event]) -> Result<usize, Refusal>
     ensures { (result ≡ streamed list.now (length results.old))
         × (results.new ≡ streamed_slots list.now results.old) }
 {
-    if !accept(list).is_accepted() {
+    if !accept(list).is_some_and(Reading::is_accepted) {
         return Err(Refusal::NoRawTables);
     }
     let stream = Stream {

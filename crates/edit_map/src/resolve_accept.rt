@@ -1,16 +1,17 @@
 // Question 10, record by record: whether a list is made of raw tables.
-ghost use Rattle.std.specs.Prelude.{◌≡◌, cond};
+ghost use Rattle.std.specs.Bool.{then_some};
+ghost use Rattle.std.specs.Prelude.{◌≡◌, cond, Some};
 ghost use Rattle.tokenizer.specs.Events;
 ghost use Rattle.gfm_table.specs.declared.stream.Part.TheVariants as Part;
 ghost use Rattle.gfm_table.specs.Stream.{name_of};
 ghost use Rattle.edit_map.specs.Raw.{enters, leaves, row_piece, delimiter_piece};
-ghost use Rattle.edit_map.specs.Accept.{piece_of, at, refused, ending, entry_of, after_row, read_in, read_step, whole, accepted};
+ghost use Rattle.edit_map.specs.Accept.{piece_of, at, ending, entry_of, after_row, read_in, read_step, whole, accepted};
 
 use crate::resolve_base::{is_entry, is_exit};
 use gfm_table::stream::Part;
-use tokenizer::event::{Event, Name};
+use tokenizer::event::{Event, Link, Name};
 
-// How far a list of raw tables is read. `Refused` is one of these, no `None` around them: each step would match once more.
+// How far a list of raw tables is read.
 #[derive(Clone, Copy, PartialEq, Eq)]
 pub enum Place {
     Start,
@@ -20,7 +21,6 @@ pub enum Place {
     Between,
     HeadLeave,
     Closed,
-    Refused,
 }
 
 // The place in a table, the row that is read or comes next, and the name of what is to be left next, if anything is.
@@ -28,6 +28,8 @@ pub enum Place {
 pub struct Reading {
     pub place: Place,
     pub part: Part,
+    // A number, as a record's name is: it is only compared with the next record's, and a
+    // `Name` would be looked up by the number first.
     pub due: Option<u8>,
 }
 
@@ -35,14 +37,14 @@ pub struct Reading {
 fn enters(n: u8, e: Event) -> bool
     ensures { result ≡ enters n e }
 {
-    is_entry(n, e) && e.link <= 1
+    is_entry(n, e) && e.link <= Link::Text as u8
 }
 
 // A record that leaves the name n, its link a known code.
 fn leaves(n: u8, e: Event) -> bool
     ensures { result ≡ leaves n e }
 {
-    is_exit(n, e) && e.link <= 1
+    is_exit(n, e) && e.link <= Link::Text as u8
 }
 
 // Whether a row may hold pieces of the name n.
@@ -94,26 +96,16 @@ fn ending(part: Part) -> Reading
     }
 }
 
-// The next reading where a test is passed, and a refusal where not.
-fn passing(b: bool, r: Reading) -> Reading
-    ensures { result ≡ cond b r refused }
-{
-    if b { r } else { Reading::REFUSED }
-}
-
 // A piece is entered.
-fn entry_of(part: Part, e: Event) -> Reading
+fn entry_of(part: Part, e: Event) -> Option<Reading>
     ensures { result ≡ entry_of part e }
 {
     let n = e.name;
-    passing(
-        piece_of(part, n) && enters(n, e),
-        Reading {
-            place: Place::Within,
-            part,
-            due: Some(n),
-        },
-    )
+    (piece_of(part, n) && enters(n, e)).then_some(Reading {
+        place: Place::Within,
+        part,
+        due: Some(n),
+    })
 }
 
 // A row is left.
@@ -128,53 +120,48 @@ fn after_row(p: Part) -> Reading
 }
 
 // The row is left, or a piece is entered.
-fn within(p: Part, e: Event) -> Reading
-    ensures { result ≡ cond (leaves (name_of p) e) (after_row p) (entry_of p e) }
+fn within(p: Part, e: Event) -> Option<Reading>
+    ensures { result ≡ cond (leaves (name_of p) e) (Some (after_row p)) (entry_of p e) }
 {
     if leaves(p.row_name() as u8, e) {
-        after_row(p)
+        Some(after_row(p))
     } else {
         entry_of(p, e)
     }
 }
 
 // A table is entered.
-fn head_entry(e: Event) -> Reading
-    ensures { result ≡ cond (enters Events.GfmTableHead e) (at Place.Entry Part.Head) refused }
+fn head_entry(e: Event) -> Option<Reading>
+    ensures { result ≡ then_some (enters Events.GfmTableHead e) (at Place.Entry Part.Head) }
 {
-    passing(
-        enters(Name::GfmTableHead as u8, e),
-        at(Place::Entry, Part::Head),
-    )
+    enters(Name::GfmTableHead as u8, e).then_some(at(Place::Entry, Part::Head))
 }
 
 // A body row follows, or another table.
-fn closed(e: Event) -> Reading
-    ensures { result ≡ cond (enters Events.LineEnding e) (ending Part.Body) (cond (enters Events.GfmTableHead e) (at Place.Entry Part.Head) refused) }
+fn closed(e: Event) -> Option<Reading>
+    ensures { result ≡ cond (enters Events.LineEnding e) (Some (ending Part.Body)) (then_some (enters Events.GfmTableHead e) (at Place.Entry Part.Head)) }
 {
     if enters(Name::LineEnding as u8, e) {
-        ending(Part::Body)
+        Some(ending(Part::Body))
     } else {
         head_entry(e)
     }
 }
 
 // One record at a place where nothing is to be left: the places are those over which the definition matches.
-fn read_in(l: Place, p: Part, e: Event) -> Reading
+fn read_in(l: Place, p: Part, e: Event) -> Option<Reading>
     ensures { result ≡ read_in l p e }
 {
     match l {
         Place::Start => head_entry(e),
-        Place::Entry => passing(enters(p.row_name() as u8, e), at(Place::Fresh, p)),
+        Place::Entry => enters(p.row_name() as u8, e).then_some(at(Place::Fresh, p)),
         Place::Fresh => entry_of(p, e),
         Place::Within => within(p, e),
-        Place::Between => passing(enters(Name::LineEnding as u8, e), ending(Part::Delimiter)),
-        Place::HeadLeave => passing(
-            leaves(Name::GfmTableHead as u8, e),
-            at(Place::Closed, Part::Head),
-        ),
+        Place::Between => enters(Name::LineEnding as u8, e).then_some(ending(Part::Delimiter)),
+        Place::HeadLeave => {
+            leaves(Name::GfmTableHead as u8, e).then_some(at(Place::Closed, Part::Head))
+        }
         Place::Closed => closed(e),
-        Place::Refused => Reading::REFUSED,
     }
 }
 
@@ -186,20 +173,13 @@ impl Reading {
         due: None,
     };
 
-    // No raw table.
-    pub const REFUSED: Reading = Reading {
-        place: Place::Refused,
-        part: Part::Head,
-        due: None,
-    };
-
-    // One record more.
-    pub fn step(self, e: Event) -> Self
+    // One record more; none where no list of raw tables goes on so.
+    pub fn step(self, e: Event) -> Option<Self>
         ensures { result ≡ read_step self e }
     {
         match self.due {
             None => read_in(self.place, self.part, e),
-            Some(n) => passing(leaves(n, e), at(self.place, self.part)),
+            Some(n) => leaves(n, e).then_some(at(self.place, self.part)),
         }
     }
 

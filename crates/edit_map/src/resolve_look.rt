@@ -1,16 +1,16 @@
 // The look ahead behind a piece, up to a divider or the row's end.
 ghost use Rattle.std.specs.Prelude.{◌≡◌};
 ghost use Rattle.edit_map.specs.Base.{plus_of};
-ghost use Rattle.edit_map.specs.Cursors.{look_start, look_on, look_step, asks, reads};
+ghost use Rattle.edit_map.specs.Cursors.{look_start, look_text, look_on, asks, reads};
 
 use crate::resolve_base::is_text_name;
 use crate::resolve_turn::{Mode, Phase};
+use std::ops::ControlFlow;
 use tokenizer::event::{Event, Name};
 
 // What a look ahead found behind a piece; a brief one ends where something solid is found.
 #[derive(Clone, Copy)]
 pub struct Look {
-    pub on: bool,
     pub count: usize,
     pub ahead: usize,
     pub solid: bool,
@@ -23,7 +23,6 @@ impl Look {
         ensures { result ≡ look_start this }
     {
         Look {
-            on: true,
             count: 1,
             ahead: 1,
             solid: false,
@@ -31,43 +30,38 @@ impl Look {
         }
     }
 
-    // One more record of a look ahead that is on; n is the count with it.
-    fn further(self, n: usize, e: Event) -> Self
-        ensures { result ≡ look_on n self e }
+    // It goes on behind a text, or breaks off there if it is brief.
+    fn past_text(self) -> ControlFlow<Self, Self>
+        ensures { result ≡ look_text self }
     {
+        if self.brief {
+            ControlFlow::Break(self)
+        } else {
+            ControlFlow::Continue(self)
+        }
+    }
+
+    // One more record; it breaks off at what is neither whitespace nor text, and a brief one at a text.
+    pub fn further(self, e: Event) -> ControlFlow<Self, Self>
+        ensures { result ≡ look_on (plus_of self.count 1) self e }
+    {
+        let n = self.count.saturating_add(1);
         if e.name == Name::SpaceOrTab as u8 {
-            return Look {
-                count: n,
-                on: true,
-                ..self
-            };
+            return ControlFlow::Continue(Look { count: n, ..self });
         }
         if is_text_name(e.name) {
-            return Look {
-                on: !self.brief,
+            let found = Look {
                 count: n,
                 ahead: n,
                 solid: true,
                 ..self
             };
+            return found.past_text();
         }
-        Look {
-            on: false,
+        ControlFlow::Break(Look {
             solid: self.solid || e.name == Name::GfmTableCellDivider as u8,
             ..self
-        }
-    }
-
-    // One more record of a look ahead; once it is off it stays.
-    #[tactic(auto, unfolding(crate::specs::Cursors::look_step))]
-    pub fn step(self, e: Event) -> Self
-        ensures { result ≡ look_step self e }
-    {
-        if self.on {
-            self.further(self.count.saturating_add(1), e)
-        } else {
-            self
-        }
+        })
     }
 }
 

@@ -4,7 +4,7 @@ ghost use Rattle.edit_map.specs.Cursors.{is_over, moves};
 
 use crate::resolve_turn::{Mode, Phase, Turn};
 use gfm_table::stream::Part;
-use tokenizer::event::Event;
+use tokenizer::event::{Event, EventKind};
 
 // Where the stream stands in the list.
 #[derive(Clone, Copy)]
@@ -30,7 +30,7 @@ impl Cursor {
     pub fn is_over(self, this: Event) -> bool
         ensures { result ≡ is_over self this }
     {
-        self.mode.phase == Phase::Out && this.kind == 0
+        self.mode.phase == Phase::Out && this.kind == EventKind::Blank as u8
     }
 
     // After a turn.

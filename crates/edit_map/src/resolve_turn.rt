@@ -1,12 +1,14 @@
 // One turn of the resolver: a record of the result, by the mode and the records at hand.
 ghost use Rattle.std.specs.Prelude.{◌≡◌};
-ghost use Rattle.edit_map.specs.Turns.{value_phase, plain, given, piece_turn, row_exit_turn, head_exit_turn, copy_turn, leave_cell, enter_cell, enter_value, copy_piece, end_exit_turn, turn_of};
+ghost use Rattle.tokenizer.specs.Events.{linked};
+ghost use Rattle.edit_map.specs.declared.resolve_turn.Phase.TheVariants.{Copy};
+ghost use Rattle.edit_map.specs.Turns.{to, value_phase, plain, given, piece_turn, row_exit_turn, head_exit_turn, copy_turn, leave_cell, enter_cell, enter_value, copy_piece, end_exit_turn, turn_of};
 
 use crate::cell_steps::{cell_name, value_name};
 use crate::resolve_base::{is_row_name, is_text_name};
 use crate::resolve_look::Look;
 use gfm_table::stream::Part;
-use tokenizer::event::{Event, Name};
+use tokenizer::event::{Event, Link, Name, Point};
 
 // Where the stream of result records stands.
 #[derive(Clone, Copy, PartialEq, Eq)]
@@ -79,18 +81,25 @@ fn given(event: Event, mode: Mode, by: usize) -> Turn
     Turn { event, mode, by }
 }
 
+// A turn to a phase outside a row's cells.
+fn outside(event: Event, phase: Phase, part: Part, by: usize) -> Turn
+    ensures { result ≡ given event (plain phase part) by }
+{
+    given(event, Mode::plain(phase, part), by)
+}
+
 // A row's exit is copied; at the end of a body it stays at hand.
 fn row_exit_turn(p: Part, this: Event, next: Event) -> Turn
     ensures { result ≡ row_exit_turn p this next }
 {
     match p {
-        Part::Head => given(this, Mode::plain(Phase::End, Part::Head), 1),
-        Part::Delimiter => given(this, Mode::plain(Phase::HeadExit, Part::Delimiter), 1),
+        Part::Head => outside(this, Phase::End, Part::Head, 1),
+        Part::Delimiter => outside(this, Phase::HeadExit, Part::Delimiter, 1),
         Part::Body => {
             if next.name == Name::LineEnding as u8 {
-                given(this, Mode::plain(Phase::End, Part::Body), 1)
+                outside(this, Phase::End, Part::Body, 1)
             } else {
-                given(this, Mode::plain(Phase::BodyLeave, Part::Body), 0)
+                outside(this, Phase::BodyLeave, Part::Body, 0)
             }
         }
     }
@@ -101,9 +110,9 @@ fn end_exit_turn(p: Part, this: Event) -> Turn
     ensures { result ≡ end_exit_turn p this }
 {
     match p {
-        Part::Head => given(this, Mode::plain(Phase::Row, Part::Delimiter), 1),
-        Part::Delimiter => given(this, Mode::plain(Phase::Open, Part::Body), 1),
-        Part::Body => given(this, Mode::plain(Phase::Row, Part::Body), 1),
+        Part::Head => outside(this, Phase::Row, Part::Delimiter, 1),
+        Part::Delimiter => outside(this, Phase::Open, Part::Body, 1),
+        Part::Body => outside(this, Phase::Row, Part::Body, 1),
     }
 }
 
@@ -112,9 +121,9 @@ fn head_exit_turn(this: Event, next: Event) -> Turn
     ensures { result ≡ head_exit_turn this next }
 {
     if next.name == Name::LineEnding as u8 {
-        given(this, Mode::plain(Phase::End, Part::Delimiter), 1)
+        outside(this, Phase::End, Part::Delimiter, 1)
     } else {
-        given(this, Mode::plain(Phase::TableLeave, Part::Delimiter), 0)
+        outside(this, Phase::TableLeave, Part::Delimiter, 0)
     }
 }
 
@@ -122,11 +131,7 @@ fn head_exit_turn(this: Event, next: Event) -> Turn
 fn leave_cell(p: Part, this: Event, then: Phase) -> Turn
     ensures { result ≡ leave_cell p this then }
 {
-    given(
-        Event::exit(cell_name(p), this.into()),
-        Mode::plain(then, p),
-        0,
-    )
+    outside(cell_name(p).exit(this.into()), then, p, 0)
 }
 
 // A cell is entered.
@@ -137,7 +142,7 @@ fn enter_cell(p: Part, this: Event) -> Turn
         waits: true,
         ..Mode::plain(Phase::Piece, p)
     };
-    given(Event::enter(cell_name(p), this.into()), m, 0)
+    given(cell_name(p).enter(this.into()), m, 0)
 }
 
 // A value is entered.
@@ -149,7 +154,7 @@ fn enter_value(p: Part, this: Event, ahead: usize) -> Turn
         left: ahead,
         ..Mode::plain(value_phase(p), p)
     };
-    given(Event::enter(value_name(p), this.into()), m, 0)
+    given(value_name(p).enter(this.into()), m, 0)
 }
 
 // A piece's entry is copied.
@@ -182,6 +187,22 @@ fn piece_turn(m: Mode, this: Event, look: Look) -> Turn
     copy_piece(m, this)
 }
 
+// A text's entry is linked, and what lies up to its last exit is passed.
+fn text_turn(m: Mode, this: Event) -> Turn
+    ensures { result ≡ given (linked this) (to m Copy 0) m.left }
+{
+    let linked = Event {
+        link: Link::Text as u8,
+        ..this
+    };
+    let then = Mode {
+        phase: Phase::Copy,
+        left: 0,
+        ..m
+    };
+    given(linked, then, m.left)
+}
+
 // A value is copied up to its last exit.
 fn copy_turn(m: Mode, this: Event) -> Turn
     ensures { result ≡ copy_turn m this }
@@ -208,51 +229,34 @@ impl Mode {
         ensures { result ≡ turn_of self this next look.ahead look.solid }
     {
         let p = self.part;
+        let here = Point::from(this);
         let piece = Mode {
             phase: Phase::Piece,
             left: 0,
             ..self
         };
         match self.phase {
-            Phase::Out => given(
-                Event::enter(Name::GfmTable, this.into()),
-                Mode::plain(Phase::Head, Part::Head),
-                0,
-            ),
-            Phase::Head => given(this, Mode::plain(Phase::Row, Part::Head), 1),
-            Phase::Row => given(this, Mode::plain(Phase::Cell, p), 1),
+            Phase::Out => outside(Name::GfmTable.enter(here), Phase::Head, Part::Head, 0),
+            Phase::Head => outside(this, Phase::Row, Part::Head, 1),
+            Phase::Row => outside(this, Phase::Cell, p, 1),
             Phase::Cell => enter_cell(p, this),
             Phase::Piece => piece_turn(self, this, look),
             Phase::Exit => given(this, piece, 1),
-            Phase::Text => {
-                let then = Mode {
-                    phase: Phase::Copy,
-                    left: 0,
-                    ..self
-                };
-                given(Event { link: 1, ..this }, then, self.left)
-            }
+            Phase::Text => text_turn(self, this),
             Phase::Copy => copy_turn(self, this),
-            Phase::Leave => given(Event::exit(value_name(p), this.into()), piece, 1),
+            Phase::Leave => given(value_name(p).exit(here), piece, 1),
             Phase::RowExit => row_exit_turn(p, this, next),
             Phase::HeadExit => head_exit_turn(this, next),
-            Phase::End => given(this, Mode::plain(Phase::EndExit, p), 1),
+            Phase::End => outside(this, Phase::EndExit, p, 1),
             Phase::EndExit => end_exit_turn(p, this),
-            Phase::Open => given(
-                Event::enter(Name::GfmTableBody, this.into()),
-                Mode::plain(Phase::Row, Part::Body),
+            Phase::Open => outside(Name::GfmTableBody.enter(here), Phase::Row, Part::Body, 0),
+            Phase::BodyLeave => outside(
+                Name::GfmTableBody.exit(here),
+                Phase::TableLeave,
+                Part::Body,
                 0,
             ),
-            Phase::BodyLeave => given(
-                Event::exit(Name::GfmTableBody, this.into()),
-                Mode::plain(Phase::TableLeave, Part::Body),
-                0,
-            ),
-            Phase::TableLeave => given(
-                Event::exit(Name::GfmTable, this.into()),
-                Mode::plain(Phase::Out, Part::Head),
-                1,
-            ),
+            Phase::TableLeave => outside(Name::GfmTable.exit(here), Phase::Out, Part::Head, 1),
         }
     }
 }

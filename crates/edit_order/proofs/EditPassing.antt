@@ -1,50 +1,38 @@
 -- Passes over the edits: a test of every edit, and a sum over them up to a limit.
 -- Assumes nothing.
-use Rattle.std.proofs.Common.{ℕ, ◌+◌, ◌≤◌, ◌<◌, ◌≡◌, ◌∙◌, refl, sym, ap, List, [], ◌∷◌, Bool, true, false, cond, eqb, ◌&&◌, length, get_or, drop, drop-cons, drop_of_length-le, sum_by, add-one, arith, Some, None, leb}
+use Rattle.std.proofs.Common.{ℕ, ◌+◌, map, ◌≤◌, ◌<◌, ◌≡◌, ◌∙◌, refl, sym, ap, List, [], ◌∷◌, Bool, true, false, cond, eqb, ◌&&◌, sum_by, arith, Some, None, leb}
+use native.Mathlib.Nat.{add-zero}
+use borrow.Author.Tests.{lt-leb, le-leb}
 use Rattle.std.proofs.lemmas.Bool.{leb-true, leb-false}
 use Rattle.std.proofs.lemmas.List.Sums.{sum_by-cons}
 use Rattle.edit_order.specs.declared.edit_slots.Edit.{Edit}
-use Rattle.edit_order.specs.EditFives.{no_edit}
+use Rattle.std.specs.List.{list_all}
+use Rattle.edit_order.proofs.EditFolding.{through, through-none}
+use Rattle.edit_order.specs.EditFives.{edit_of}
 use Rattle.edit_order.specs.Edits.{every, here, removed}
 use Rattle.edit_order.specs.EditCount.{adding, capped}
 
--- edit i and those behind it
-pub drops : (es : List Edit) (i : ℕ) → i < length es → (e : Edit) → e ≡ get_or es i no_edit → drop i es ≡ e ∷ drop (i + 1) es
-drops es i h e q = drop-cons es i no_edit h ∙ rw (q, add-one i)
-
 -- ## Every edit
 
--- the first i passed
-pub record Passing (f : Edit → Bool) (es : List Edit) (i : ℕ) : Type 0 where
-  pub low : i ≤ length es
-  pub same : every f es ≡ every f (drop i es)
-
-every-drop : (f : Edit → Bool) (es : List Edit) (i : ℕ) → i < length es → every f (drop i es) ≡ f (get_or es i no_edit) && every f (drop (i + 1) es)
+every-all : (f : Edit → Bool) (gs : List (List ℕ)) → list_all (λ x. f (edit_of x)) gs ≡ every f (map edit_of gs)
 unfolding every
-every-drop f es i h = rw (drop-cons es i no_edit h, add-one i)
+every-all f [] = refl
+every-all f (g ∷ gs) = ap (λ b. f (edit_of g) && b) (every-all f gs)
 
-module _ (f : Edit → Bool) (es : List Edit) (i : ℕ) (s : Passing f es i) where
-  pub pass_end : length es ≤ i → every f es ≡ true
-  unfolding every
-  pass_end h = s.same ∙ rw (drop_of_length-le es {i = i} h)
-
-  module _ (h : i < length es) (e : Edit) (q : e ≡ get_or es i no_edit) where
-    pub pass_on : f e ≡ true → Passing f es (i + 1)
-    pass_on t = record { low = omega arith; same = s.same ∙ every-drop f es i h ∙ rw (← q, t) }
-
-    pub pass_off : f e ≡ false → every f es ≡ false
-    pass_off t = s.same ∙ every-drop f es i h ∙ rw (← q, t)
+-- a test of every group is one of every edit
+pub passes : (f : Edit → Bool) (gs : List (List ℕ)) (es : List Edit) → map edit_of gs ≡ es → list_all (λ x. f (edit_of x)) gs ≡ every f es
+passes f gs es h = every-all f gs ∙ ap (every f) h
 
 -- ## Sums
 
--- the edits from i on
-pub removed_on : (es : List Edit) (i : ℕ) → i < length es → removed (drop i es) ≡ (get_or es i no_edit).removes + removed (drop (i + 1) es)
+removed-all : (gs : List (List ℕ)) → sum_by (λ g. (edit_of g).removes) gs ≡ removed (map edit_of gs)
 unfolding removed
-removed_on es i h = rw (drop-cons es i no_edit h, add-one i)
+removed-all [] = refl
+removed-all (g ∷ gs) = sum_by-cons (λ (x : List ℕ). (edit_of x).removes) g gs ∙ ap (λ n. (edit_of g).removes + n) (removed-all gs)
 
-pub removed_end : (es : List Edit) (i : ℕ) → length es ≤ i → removed (drop i es) ≡ 0
-unfolding removed
-removed_end es i h = rw (drop_of_length-le es {i = i} h)
+-- what the groups remove is what the edits remove
+pub removes : (gs : List (List ℕ)) (es : List Edit) → map edit_of gs ≡ es → sum_by (λ g. (edit_of g).removes) gs ≡ removed es
+removes gs es h = removed-all gs ∙ ap removed h
 
 pub adding_sum : (es : List Edit) → adding es ≡ sum_by (λ e. e.adds) es
 unfolding adding
@@ -67,6 +55,29 @@ pub here_sum : (p : ℕ) (es : List Edit) → removed (here p es) ≡ sum_by (ow
 unfolding removed here
 here_sum p [] = refl
 here_sum p (e ∷ es) = own-cons p e es ∙ ap (λ n. own p e + n) (here_sum p es) ∙ sym (sum_by-cons (own p) e es)
+
+-- ## A sum up to a limit
+
+-- each number is added where the sum stays within the limit
+pub summing : (limit : ℕ) (f : Edit → ℕ) (gs : List (List ℕ)) (a : ℕ) → a ≤ limit
+    → through (λ b x. capped limit (b + f (edit_of x))) gs (Some a) ≡ capped limit (a + sum_by f (map edit_of gs))
+unfolding through
+summing limit f [] a h = rw (le-leb (a + 0) limit (omega (arith, h)), add-zero a)
+summing limit f (x ∷ gs) a h = go (leb (a + n) limit) refl (summing limit f gs (a + n))
+  where
+    n : ℕ
+    n = f (edit_of x)
+
+    es : List Edit
+    es = map edit_of gs
+
+    on : a + n + sum_by f es ≡ a + sum_by f (edit_of x ∷ es)
+    on = omega (arith, sum_by-cons f (edit_of x) es)
+
+    go : (t : Bool) → leb (a + n) limit ≡ t → (a + n ≤ limit → through (λ b y. capped limit (b + f (edit_of y))) gs (Some (a + n)) ≡ capped limit (a + n + sum_by f es))
+        → through (λ b y. capped limit (b + f (edit_of y))) gs (cond t (Some (a + n)) None) ≡ capped limit (a + sum_by f (edit_of x ∷ es))
+    go true t ih = ih (leb-true (a + n) limit t) ∙ ap (capped limit) on
+    go false t ih = through-none _ gs ∙ sym (rw (lt-leb (a + sum_by f (edit_of x ∷ es)) limit (omega (arith, on, leb-false (a + n) limit t))))
 
 -- ## What a capped sum tells
 

@@ -1,25 +1,29 @@
 -- Among edits that rise, question 11 needs to look at each edit only once.
 -- Assumes nothing.
-use Prim.Native.Nat.{ℕ, ◌+◌, ◌≤◌, ◌<◌}
+use Prim.Native.Nat.{ℕ, zero, suc, ◌+◌, ◌≤◌, ◌<◌}
 use mathlib.Core.Path.{◌≡◌, refl, ap, ap₂, sym, ◌∙◌, subst}
-use mathlib.Core.List.{List, [], ◌∷◌, map}
-use mathlib.Core.Bool.{Bool, true, false, cond, ◌&&◌, not}
-use Rattle.std.proofs.lemmas.List.{get_or-map}
+use mathlib.Core.List.{List, [], ◌∷◌, map, map-map}
+use mathlib.Core.Bool.{Bool, true, false, true≢false, cond, ◌&&◌, not}
 use Rattle.std.specs.Prelude.{Option, Some, None}
 use native.Mathlib.Omega.{arith}
 use native.Mathlib.Nat.{le_refl, le_trans, zero-add}
 use lib.Dec.{eqb, leb, ltb}
-use borrow.Author.Tests.{eqb-true, eqb-false, leb-true, leb-false, eq-eqb, ne_eqb, le-leb, lt-leb, lt-ltb, le-ltb}
-use lib.ListN.{length, get_or, drop, drop_of_length-le}
+use borrow.Author.Tests.{tests, eqb-true, eqb-false, leb-true, leb-false, eq-eqb, ne_eqb, le-leb, lt-leb, lt-ltb, le-ltb}
+use lib.ListN.{length, get_or}
+use Rattle.std.specs.List.{IsAllAdjacentAnswer}
+use Rattle.std.specs.Ordering.{is_le, nat_cmp}
+use Rattle.std.specs.Option.{is_some}
+use Rattle.std.proofs.lemmas.Map.Keys.{le_from_is_le}
 use Rattle.edit_order.specs.declared.edit_slots.Edit.{Edit}
 use Rattle.edit_order.specs.declared.edit_fits.Extent.{Extent}
 use Rattle.edit_order.specs.Edits.{here, removed, removed_at, every, clear, in_pool, stretch, dropped, fine, edits_fit}
 use Rattle.edit_order.specs.EditOrder.{Rises}
-use Rattle.edit_order.specs.EditFives.{no_edit}
+use Rattle.edit_order.specs.EditFives.{edit_of}
 use Rattle.edit_order.specs.EditReach.{to, within, reached}
 use Rattle.edit_order.proofs.EditOrder.{here-below, rises-from}
 use Rattle.edit_order.proofs.EditSorted.{every_ext}
-use Rattle.edit_order.proofs.EditPassing.{own, own-cons, drops}
+use Rattle.edit_order.proofs.EditFolding.{through}
+use Rattle.edit_order.proofs.EditPassing.{own, own-cons}
 use Rattle.std.proofs.lemmas.Bool.{and_parts}
 use Rattle.std.proofs.Math.Bool.{and-false, and-true, or-true, and_self_left}
 
@@ -344,33 +348,59 @@ module _ (len n : ℕ) where
   rising_fits [] r = refl
   rising_fits (e ∷ es) r = first e es r.1 (rising_fits es (rises-from es (omega arith) r.1))
 
--- ## The loops of `rising` and `in_order`
-
-pub record Climbing (es : List Edit) (i p : ℕ) : Type 0 where
-  pub low : i ≤ length es
-  pub so : Rises p (drop i es) → Rises 0 es
-  pub back : Rises 0 es → Rises p (drop i es)
-
-pub record Going (len n : ℕ) (es : List Edit) (i : ℕ) (r : Option Extent) : Type 0 where
-  pub low : i ≤ length es
-  pub same : edits_fit len n es ≡ onward len n (drop i es) r
-
-module _ (len n : ℕ) (es : List Edit) (i : ℕ) where
-  pub going_end : (r : Extent) → Going len n es i (Some r) → length es ≤ i → edits_fit len n es ≡ true
-  unfolding onward
-  going_end r s h = s.same ∙ rw (drop_of_length-le es {i = i} h)
-
-  pub going_on : (r : Extent) → Going len n es i (Some r) → (e : Edit) → e ≡ get_or es i no_edit → i < length es → (x : Option Extent) → x ≡ reached len n r e → Going len n es (i + 1) x
-  unfolding onward
-  going_on r s e q h x y = record { low = omega arith; same = s.same ∙ rw (drops es i h e q, y) }
-
-pub going_refused : (len n : ℕ) (es : List Edit) (i : ℕ) (x : Option Extent) → Going len n es i x → x ≡ None → edits_fit len n es ≡ false
-going_refused len n es i x s y = s.same ∙ rw y (refused len n (drop i es))
-
 -- edits made anew where they stand rise as before
 pub rises-map : (f : Edit → Edit) → ((e : Edit) → (f e).at ≡ e.at) → (p : ℕ) (es : List Edit) → Rises p es → Rises p (map f es)
 rises-map f k p [] r = tt
 rises-map f k p (e ∷ es) r = rw (k e) (r.0, rises-map f k e.at es r.1)
 
-pub map_it : (f : Edit → Edit) (es : List Edit) (i : ℕ) → i < length es → (e u : Edit) → e ≡ get_or es i no_edit → u ≡ f e → u ≡ get_or (map f es) i no_edit
-map_it f es i h e u p q = q ∙ ap f p ∙ sym (get_or-map f es i no_edit no_edit h)
+-- ## The fold of `in_order`
+
+onward-through : (len n : ℕ) (made : List ℕ → Edit) (gs : List (List ℕ)) (o : Option Extent) → is_some (through (λ r x. reached len n r (made x)) gs o) ≡ onward len n (map made gs) o
+unfolding through onward
+onward-through len n made [] None = refl
+onward-through len n made [] (Some r) = refl
+onward-through len n made (x ∷ gs) None = refl
+onward-through len n made (x ∷ gs) (Some r) = onward-through len n made gs (reached len n r (made x))
+
+-- over groups that are edits which rise, each made anew
+pub fits_anew : (f : Edit → Edit) → ((e : Edit) → (f e).at ≡ e.at) → (len n : ℕ) (gs : List (List ℕ)) (es : List Edit) → map edit_of gs ≡ es → Rises 0 es
+    → is_some (through (λ r x. reached len n r (f (edit_of x))) gs (Some (to 0 0))) ≡ edits_fit len n (map f es)
+fits_anew f same len n gs es h r =
+    onward-through len n (λ x. f (edit_of x)) gs (Some (to 0 0))
+    ∙ ap (λ (l : List Edit). onward len n l (Some (to 0 0))) (sym (map-map f edit_of gs) ∙ ap (map f) h)
+    ∙ sym (rising_fits len n (map f es) (rises-map f same 0 es r))
+
+-- ## The test of `rising`
+
+-- a group's position
+abbrev pub position : List ℕ → ℕ
+position g = (edit_of g).at
+
+-- each position is at most the next
+abbrev Tested : List (List ℕ) → Bool → Type 0
+Tested gs r = IsAllAdjacentAnswer (λ x y b. b ≡ is_le (nat_cmp (position x) (position y))) gs r
+
+le-is_le : (a b : ℕ) → a ≤ b → is_le (nat_cmp a b) ≡ true
+le-is_le a b h = grind (arith, tests)
+
+rises-on : (g : List ℕ) (gs : List (List ℕ)) → Tested (g ∷ gs) true → Rises (position g) (map edit_of gs)
+rises-on g [] a = tt
+rises-on g (x ∷ gs) a =
+    (le_from_is_le (position g) (position x) (sym (a 0 [] (omega arith))), rises-on x gs (λ k d h. let next : suc k + 1 ≡ suc (k + 1) = omega arith in rw next at (a (suc k) d (omega (arith, h)))))
+
+falls : (k : ℕ) (g : List ℕ) (gs : List (List ℕ)) → k + 1 < length (g ∷ gs)
+    → ((d : List ℕ) → false ≡ is_le (nat_cmp (position (get_or (g ∷ gs) k d)) (position (get_or (g ∷ gs) (k + 1) d)))) → Rises (position g) (map edit_of gs) → ⊥
+falls k g [] h a r = omega (arith, h)
+falls zero g (x ∷ gs) h a r = true≢false (sym (le-is_le (position g) (position x) r.0) ∙ sym (a []))
+falls (suc k) g (x ∷ gs) h a r =
+    let next : suc k + 1 ≡ suc (k + 1) = omega arith in
+    falls k x gs (omega (arith, h)) (λ d. rw next at (a d)) r.1
+
+tested : (gs : List (List ℕ)) (r : Bool) → Tested gs r → (r ≡ true → Rises 0 (map edit_of gs)) × (Rises 0 (map edit_of gs) → r ≡ true)
+tested [] true a = (λ t. tt, λ x. refl)
+tested [] false a = absurd (omega (arith, a.1))
+tested (g ∷ gs) true a = (λ t. (omega arith, rises-on g gs a), λ x. refl)
+tested (g ∷ gs) false a = (λ t. absurd (true≢false (sym t)), λ x. absurd (falls a.0 g gs a.1 a.2 x.1))
+
+pub rising_is : (gs : List (List ℕ)) (es : List Edit) (r : Bool) → map edit_of gs ≡ es → Tested gs r → (r ≡ true → Rises 0 es) × (Rises 0 es → r ≡ true)
+rising_is gs es r h a = rw h at (tested gs r a)

@@ -4,6 +4,7 @@ pub mod EditSlots
 pub mod EditFitting
 pub mod EditOrder
 pub mod EditSorted
+pub mod EditFolding
 pub mod EditPassing
 pub mod EditRising
 pub mod EditCounted

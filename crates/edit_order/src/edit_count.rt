@@ -4,19 +4,19 @@ ghost use Rattle.edit_order.specs.EditSlots.{edits_of};
 ghost use Rattle.edit_order.specs.Edits.{removed};
 ghost use Rattle.edit_order.specs.EditCount.{capped, result_count};
 
+use crate::edit_slots::Edit;
 use crate::{edit_passes, edit_slots};
 
 // The records of the list that stay.
-#[tactic(auto, using(crate::proofs::EditPassing::removed_on, crate::proofs::EditPassing::removed_end))]
 fn staying(edits: &[usize], len: usize) -> usize
     requires { removed (edits_of edits.now) ≤ len }
     ensures { result ≡ len - removed (edits_of edits.now) }
 {
-    let mut left = len;
-    for i in 0..edit_slots::number(edits) {
-        left -= edit_slots::get(edits, i).removes;
-    }
-    left
+    let removed: usize = edit_slots::groups(edits)
+        .iter()
+        .map(|group| Edit::from(*group).removes)
+        .sum();
+    len - removed
 }
 
 // The number of result records, or none where it is over the limit.

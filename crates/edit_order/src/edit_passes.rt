@@ -14,12 +14,16 @@ pub fn all<F: Fn(Edit) -> bool>(edits: &[usize], test: F) -> bool
     requires tells { (e : Edit) (r : Bool) → F.post test e r → r ≡ says e }
     ensures { result ≡ every says (edits_of edits.now) }
 {
-    for i in 0..edit_slots::number(edits) {
-        if !test(edit_slots::get(edits, i)) {
-            return false;
-        }
-    }
-    true
+    edit_slots::groups(edits)
+        .iter()
+        .all(|group| test(Edit::from(*group)))
+}
+
+// One number more to a sum, or none where that is more than `limit`.
+fn add_within(sum: usize, more: usize, limit: usize) -> Option<usize>
+    ensures { result ≡ capped limit (sum + more) }
+{
+    sum.checked_add(more).filter(|n| *n <= limit)
 }
 
 // What a measure gives of each edit, summed up from `start` on: none where that is more than `limit`.
@@ -37,13 +41,9 @@ pub fn sum_within<F: Fn(Edit) -> usize>(
     if limit < start {
         return None;
     }
-    let mut sum = start;
-    for i in 0..edit_slots::number(edits) {
-        let more = measure(edit_slots::get(edits, i));
-        if limit - sum < more {
-            return None;
-        }
-        sum += more;
-    }
-    Some(sum)
+    edit_slots::groups(edits)
+        .iter()
+        .try_fold(start, |sum, group| {
+            add_within(sum, measure(Edit::from(*group)), limit)
+        })
 }

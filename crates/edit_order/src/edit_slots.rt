@@ -1,8 +1,8 @@
 // The edit slots, five numbers an edit. Numbers behind the last whole group of five are neither read nor written.
-// They stay plain numbers, and `before` one of them: the C interface lends them so.
-ghost use Rattle.std.specs.Prelude.{◌≡◌, ◌<◌, ◌+◌, length, get_or, set};
+// They stay plain numbers: the C interface lends them so.
+ghost use Rattle.std.specs.Prelude.{◌≡◌, ◌<◌, ◌+◌, length, map, get_or, set};
 ghost use Rattle.edit_order.specs.EditSlots.{edits_of, holding};
-ghost use Rattle.edit_order.specs.EditFives.{no_edit, fives, store};
+ghost use Rattle.edit_order.specs.EditFives.{no_edit, edit_of, numbers};
 
 // An edit: a position, a number removed, a stretch of the pool, and whether it goes before earlier additions (0 is no).
 #[derive(Clone, Copy)]
@@ -11,7 +11,40 @@ pub struct Edit {
     pub removes: usize,
     pub from: usize,
     pub adds: usize,
+    // A number: an edit is written back as it came, and an `Option<usize>` would hold 0 in two ways.
     pub before: usize,
+}
+
+// The edit that five numbers are.
+impl From<[usize; 5]> for Edit {
+    ghost from_gives = { λ g e. e ≡ edit_of g };
+
+    fn from([at, removes, from, adds, before]: [usize; 5]) -> Edit {
+        Edit {
+            at,
+            removes,
+            from,
+            adds,
+            before,
+        }
+    }
+}
+
+// The five numbers that an edit is.
+impl From<Edit> for [usize; 5] {
+    ghost from_gives = { λ e g. g ≡ numbers e };
+
+    fn from(e: Edit) -> [usize; 5] {
+        [e.at, e.removes, e.from, e.adds, e.before]
+    }
+}
+
+// The numbers of each edit.
+#[tactic(auto, using(crate::proofs::EditSlots::groups))]
+pub fn groups(edits: &[usize]) -> &[[usize; 5]]
+    ensures { map edit_of result.now ≡ edits_of edits.now }
+{
+    edits.as_chunks::<5>().0
 }
 
 // How many edits there are.
@@ -22,39 +55,13 @@ pub fn number(edits: &[usize]) -> usize
     edits.len() / 5
 }
 
-// The edit whose numbers begin at k.
-fn read_at(edits: &[usize], k: usize) -> Edit
-    requires { k + 4 < length edits.now }
-    ensures { result ≡ fives edits.now k }
-{
-    Edit {
-        at: edits[k],
-        removes: edits[k + 1],
-        from: edits[k + 2],
-        adds: edits[k + 3],
-        before: edits[k + 4],
-    }
-}
-
-// An edit's numbers, stored from k on.
-fn write_at(edits: &mut [usize], k: usize, e: Edit)
-    requires { k + 4 < length edits.old }
-    ensures { edits.new ≡ store edits.old k e }
-{
-    edits[k] = e.at;
-    edits[k + 1] = e.removes;
-    edits[k + 2] = e.from;
-    edits[k + 3] = e.adds;
-    edits[k + 4] = e.before;
-}
-
 // The edit with a number, from 0.
-#[tactic(auto, using(crate::proofs::EditSlots::room, crate::proofs::EditSlots::get_is))]
+#[tactic(auto, using(crate::proofs::EditSlots::get_is))]
 pub fn get(edits: &[usize], i: usize) -> Edit
     requires { i < length (edits_of edits.now) }
     ensures { result ≡ get_or (edits_of edits.now) i no_edit }
 {
-    read_at(edits, 5 * i)
+    Edit::from(groups(edits)[i])
 }
 
 // An edit takes the place of the one with a number.
@@ -63,5 +70,5 @@ pub fn put(edits: &mut [usize], i: usize, e: Edit)
     requires { i < length (edits_of edits.old) }
     ensures { edits.new ≡ holding (set (edits_of edits.old) i e) edits.old }
 {
-    write_at(edits, 5 * i, e)
+    edits[5 * i..5 * i + 5].copy_from_slice(&<[usize; 5]>::from(e));
 }

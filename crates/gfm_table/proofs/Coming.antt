@@ -151,7 +151,7 @@ module _ {kind : ℕ → ℕ} (ok : Reads kind) where
     coming (Begin p) = enter GfmTableHead p ∷ row_from kind s Head p ++ follow Head (past p (rest_of s p))
     coming (Enter t p) = row_from kind s t p ++ follow t (past p (rest_of s p))
     coming (Between t p) = row_left kind s t p ++ follow t (past p (rest_of s p))
-    coming (Entered t n p) = leave (number n) p ∷ row_left kind s t p ++ follow t (past p (rest_of s p))
+    coming (Entered t n p) = leave n p ∷ row_left kind s t p ++ follow t (past p (rest_of s p))
     coming (Ended t e) = follow t e
     coming (Broken t p) = leave LineEnding p ∷ row_from kind s t p ++ follow t (past p (rest_of s p))
 

@@ -10,8 +10,8 @@ use native.Mathlib.Omega.{arith}
 use lib.ListN.{length, drop, get_or}
 use Rattle.tokenizer.specs.declared.event.Point.{Point}
 use Rattle.gfm_table.specs.declared.states.Scan.{Scan}
-use Rattle.gfm_table.specs.declared.states.Step.{Step}
-use Rattle.gfm_table.specs.declared.states.Step.TheVariants.{Paused, Ended}
+use Rattle.std.specs.declared.ops.ControlFlow.{ControlFlow}
+use Rattle.std.specs.declared.ops.ControlFlow.TheVariants.{Continue, Break}
 use Rattle.tokenizer.specs.Bytes.{Reads}
 use Rattle.tokenizer.specs.Points.{past}
 use Rattle.gfm_table.specs.Rows.{Piece, row_pieces}
@@ -60,19 +60,19 @@ module _ {kind : ℕ → ℕ} (ok : Reads kind) where
   -- ## Reading on
 
   module _ (s : List ℕ) (q : Scan) (n : ℕ) where
-    pub read_none : n ≡ 0 → Counted s q → ReadHere kind s q n (Paused q)
+    pub read_none : n ≡ 0 → Counted s q → ReadHere kind s q n (Continue q)
     unfolding outcome
     read_none e h = record { is = rw e; left = rw e; good = h }
 
-    pub read-end : (n ≡ 0 → ⊥) → ahead_of kind (drop q.at.index s) ≡ 2 → Counted s q → ReadHere kind s q n (Ended q)
+    pub read-end : (n ≡ 0 → ⊥) → ahead_of kind (drop q.at.index s) ≡ 2 → Counted s q → ReadHere kind s q n (Break q)
     unfolding outcome row_pieces
     read-end z e h = go n z (ap (row_pieces kind false) (ends ok (drop q.at.index s) e))
       where
-        go : (n : ℕ) → (n ≡ 0 → ⊥) → pieces_at kind s q.at ≡ [] → ReadHere kind s q n (Ended q)
+        go : (n : ℕ) → (n ≡ 0 → ⊥) → pieces_at kind s q.at ≡ [] → ReadHere kind s q n (Break q)
         go zero z e = absurd (z refl)
         go (suc n) z e = record { is = rw e; left = rw e; good = h }
 
-    pub read_on : (m : ℕ) (t : List ℕ) (r : Step) → (n ≡ 0 → ⊥) → First kind s q.at m t → ReadHere kind s (stepped q (record { name = m; text = t })) (n - 1) r → ReadHere kind s q n r
+    pub read_on : (m : ℕ) (t : List ℕ) (r : ControlFlow Scan Scan) → (n ≡ 0 → ⊥) → First kind s q.at m t → ReadHere kind s (stepped q (record { name = m; text = t })) (n - 1) r → ReadHere kind s q n r
     unfolding outcome
     read_on m t r z f h = go n z h
       where
@@ -111,13 +111,13 @@ module _ {kind : ℕ → ℕ} (ok : Reads kind) where
 
 -- ## A pause, and the end
 
-pause_walks : (n : ℕ) (q p : Scan) (xs : List Piece) → Paused p ≡ outcome n q xs → (walked p (drop n xs) ≡ walked q xs) × (p.count ≡ q.count + n)
+pause_walks : (n : ℕ) (q p : Scan) (xs : List Piece) → Continue p ≡ outcome n q xs → (walked p (drop n xs) ≡ walked q xs) × (p.count ≡ q.count + n)
 unfolding outcome walked
 pause_walks zero q p xs e = let i : p ≡ q = cc in (ap (λ (o : Scan). walked o xs) i, ap (λ (o : Scan). o.count) i ∙ sym (add-zero q.count))
 pause_walks (suc n) q p [] e = absurd (let z : ◌≡◌ {A = ℕ} 0 1 = cc in omega arith)
 pause_walks (suc n) q p (x ∷ xs) e = let h = pause_walks n (stepped q x) p xs e in (h.0, omega (arith, h.1))
 
-end_walks : (n : ℕ) (q p : Scan) (xs : List Piece) → Ended p ≡ outcome n q xs → p ≡ walked q xs
+end_walks : (n : ℕ) (q p : Scan) (xs : List Piece) → Break p ≡ outcome n q xs → p ≡ walked q xs
 unfolding outcome walked
 end_walks zero q p xs e = absurd (let z : ◌≡◌ {A = ℕ} 0 1 = cc in omega arith)
 end_walks (suc n) q p [] e = cc
@@ -125,11 +125,11 @@ end_walks (suc n) q p (x ∷ xs) e = end_walks n (stepped q x) p xs e
 
 module _ {kind : ℕ → ℕ} (ok : Reads kind) (s : List ℕ) (q p : Scan) (n : ℕ) where
   -- a paused state continues to the same end, n pieces later
-  pub paused_whole : (ReadHere kind) s q n (Paused p) → whole kind s p ≡ whole kind s q
+  pub paused_whole : (ReadHere kind) s q n (Continue p) → whole kind s p ≡ whole kind s q
   paused_whole h = ap (walked p) h.left ∙ (pause_walks n q p (pieces_at kind s q.at) h.is).0
 
-  pub paused_count : (ReadHere kind) s q n (Paused p) → p.count ≡ q.count + n
+  pub paused_count : (ReadHere kind) s q n (Continue p) → p.count ≡ q.count + n
   paused_count h = (pause_walks n q p (pieces_at kind s q.at) h.is).1
 
-  pub ended-whole : (ReadHere kind) s q n (Ended p) → p ≡ whole kind s q
+  pub ended-whole : (ReadHere kind) s q n (Break p) → p ≡ whole kind s q
   ended-whole h = end_walks n q p (pieces_at kind s q.at) h.is

@@ -8,19 +8,26 @@ use native.Mathlib.Nat.{add-zero}
 use native.Mathlib.Omega.{arith}
 use borrow.Author.Tests.{eqb-true}
 use lib.Dec.{eqb}
-use lib.ListN.{length}
+use lib.ListN.{length, drop}
 use Rattle.tokenizer.specs.declared.event.Name.{Name}
 use Rattle.tokenizer.specs.Bytes.{Reads}
 use Rattle.tokenizer.specs.Points.{column_after, column_past}
-use Rattle.tokenizer.specs.Moves.{Inside}
+use Rattle.tokenizer.specs.Moves.{ahead_of, Inside}
+use Rattle.tokenizer.proofs.Ahead.{Front, goes}
+use Rattle.gfm_table.specs.declared.rows.Stop.{Stop}
 use Rattle.gfm_table.specs.declared.rows.Placed.{Placed}
 use Rattle.gfm_table.specs.Rows.{delimiter_name}
 use Rattle.gfm_table.specs.Delimiters.{filler_run}
-use Rattle.gfm_table.specs.Places.{point_in, placed}
+use Rattle.gfm_table.specs.Places.{point_in, Solid, placed}
 
 -- a place in the sheet is inside it
 pub inside-at : (s : List ℕ) (i c : ℕ) → (length s ≤ 65536) × (i ≤ length s) × (c ≤ 4 * i + 1) → Inside s (point_in 0 i c)
 inside-at s i c h = record { short = h.0; within = h.1; narrow = h.2; lined = omega arith; flat = refl }
+
+-- at a byte that is no whitespace, no line end and no divider the line goes on
+pub solid-front : {kind : ℕ → ℕ} → Reads kind → (s : List ℕ) (p : Stop) → length s ≤ 65536 → p.at ≤ length s → p.column ≤ 4 * p.at + 1 → Solid (ahead_of kind (drop p.at s))
+    → Inside s (point_in 0 p.at p.column) × Front kind s p.at (ahead_of kind (drop p.at s))
+solid-front ok s p short within narrow h = (inside-at s p.at p.column (short, within, narrow), goes ok s p.at _ refl h.1)
 
 -- ## Columns
 

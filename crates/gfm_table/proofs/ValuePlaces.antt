@@ -17,7 +17,7 @@ use Rattle.tokenizer.specs.Moves.{ahead_of, run_of, after_run}
 use Rattle.tokenizer.proofs.Ahead.{Front, goes, ends, line_case}
 use Rattle.tokenizer.proofs.Runs.{space_split, run_split}
 use Rattle.gfm_table.specs.Heads.{untailed, hyphens, is_value, untrailed, all_values, values, marked, permitted, is_delimiter_row}
-use Rattle.gfm_table.specs.Delimiters.{stretch, closes, colon, written, value_end, rest_count, row_count, value_count, delimiter_at, positive}
+use Rattle.gfm_table.specs.Delimiters.{stretch, closes, colon, written, value_end, rest_count, values_start, value_count, delimiter_at, positive}
 use Rattle.gfm_table.specs.Machine.{pipe_first}
 use Rattle.gfm_table.proofs.Stops.{led_ahead}
 use Rattle.gfm_table.proofs.Delimiters.{View, view, space, pipe, hyphen, other, stretch_on, stretch-indent, stretch_space, stretch-hyphens, hyphens_on, hyphens_off, hyphens-none, written_on, ends_two, ends-front}
@@ -200,6 +200,10 @@ module _ {kind : ℕ → ℕ} (ok : Reads kind) where
 
   -- ## The number of values
 
+  -- the values of a line, the outer dividers taken off, or 0 where a stretch is none
+  abbrev pub row_count : List ℕ → ℕ
+  row_count u = cond (all_values kind (values kind u)) (length (values kind u)) 0
+
   from-none : (cs : List (List ℕ)) → cond (all_values kind cs) (0 + length cs) 0 ≡ cond (all_values kind cs) (length cs) 0
   from-none cs = ap (λ (k : ℕ). cond (all_values kind cs) k 0) (omega arith)
 
@@ -245,14 +249,57 @@ module _ {kind : ℕ → ℕ} (ok : Reads kind) where
           go true e = sym z ∙ count-empty (eqb-true (ahead_of kind (drop x s)) 2 e)
           go false e = count_bad v (eqb-false (ahead_of kind (drop x s)) 2 e)
 
-      -- the values of a line, behind a leading divider or not
-      pub row-led : (Front kind) s x 3 → rest_count kind 0 (line_from s (x + 1)) ≡ row_count kind left
-      row-led f = rw (values-led ok left _ _ (sym solid-rest ∙ f.line) f.is) (from-none (untrailed (cells kind (line_from s (x + 1)))))
+      -- a leading divider is passed, or there is none
+      pub start-led : (Front kind) s x 3 → x + 1 ≡ values_start kind i left
+      start-led f = rw (ap (pipe_first kind) (sym solid-rest ∙ f.line) ∙ eq-eqb _ 3 f.is) (ap (λ (k : ℕ). k + 1) d)
 
-      pub row_plain : (ahead_of kind (drop x s) ≡ 3 → ⊥) → rest_count kind 0 left ≡ row_count kind left
-      row_plain z = rw (values-plain ok left (led_ahead ok s (point_of i) ∙ ne_eqb _ 3 (rw d at z))) (from-none (untrailed (cells kind left)))
+      pub start_plain : (ahead_of kind (drop x s) ≡ 3 → ⊥) → i ≡ values_start kind i left
+      start_plain z = rw (led_ahead ok s (point_of i) ∙ ne_eqb _ 3 (rw d at z))
+
+  -- the values of a line stand in the stretches from their start on
+  module _ (s : List ℕ) (i : ℕ) where
+    abbrev solid_place : ℕ
+    solid_place = i + length (indent kind (line_from s i))
+
+    abbrev place : ℕ
+    place = values_start kind i (line_from s i)
+
+    led_front : eqb (ahead_of kind (drop solid_place s)) 3 ≡ true → Front kind s solid_place 3
+    led_front e = goes ok s solid_place 3 (sym (eqb-true (ahead_of kind (drop solid_place s)) 3 e)) (λ z. omega arith)
+
+    pub start-within : i ≤ length s → place ≤ length s
+    start-within h = go (eqb (ahead_of kind (drop solid_place s)) 3) refl
+      where
+        go : (t : Bool) → eqb (ahead_of kind (drop solid_place s)) 3 ≡ t → place ≤ length s
+        go true e = let f = led_front e in rw (← start-led s i 0 solid_place refl f) (omega (arith, f.below))
+        go false e = rw (← start_plain s i 0 solid_place refl (eqb-false (ahead_of kind (drop solid_place s)) 3 e)) h
+
+    pub start_values : untrailed (cells kind (line_from s place)) ≡ values kind (line_from s i)
+    start_values = go (eqb (ahead_of kind (drop solid_place s)) 3) refl
+      where
+        go : (t : Bool) → eqb (ahead_of kind (drop solid_place s)) 3 ≡ t → untrailed (cells kind (line_from s place)) ≡ values kind (line_from s i)
+        go true e =
+            let f = led_front e in
+            ap (λ (k : ℕ). untrailed (cells kind (line_from s k))) (sym (start-led s i 0 solid_place refl f))
+            ∙ sym (values-led ok (line_from s i) _ _ (sym (solid-rest s i 0 solid_place refl) ∙ f.line) f.is)
+        go false e =
+            let z = eqb-false (ahead_of kind (drop solid_place s)) 3 e in
+            ap (λ (k : ℕ). untrailed (cells kind (line_from s k))) (sym (start_plain s i 0 solid_place refl z))
+            ∙ sym (values-plain ok (line_from s i) (led_ahead ok s (point_of i) ∙ ne_eqb _ 3 z))
+
+    -- and are as many
+    pub start-count : rest_count kind 0 (line_from s place) ≡ row_count (line_from s i)
+    start-count = rw start_values (from-none (values kind (line_from s i)))
 
   -- ## The row
+
+  -- no number is given where it is 0
+  not_given : (n : ℕ) → None ≡ positive n → 0 ≡ n
+  not_given n e = go (eqb n 0) refl e
+    where
+      go : (t : Bool) → eqb n 0 ≡ t → None ≡ cond t None (Some n) → 0 ≡ n
+      go true h k = sym (eqb-true n 0 h)
+      go false h k = cc
 
   module _ (u : List ℕ) where
     abbrev every : Bool
@@ -261,14 +308,14 @@ module _ {kind : ℕ → ℕ} (ok : Reads kind) where
     abbrev count : ℕ
     count = length (values kind u)
 
-    pub count-few : 0 ≡ row_count kind u → 0 ≡ value_count kind u
+    pub count-few : 0 ≡ row_count u → 0 ≡ value_count kind u
     count-few = go (marked kind u) every
       where
         go : (m t : Bool) → 0 ≡ cond t count 0 → 0 ≡ cond (m && t) count 0
         go true t h = h
         go false t h = refl
 
-    pub count-marked : true ≡ marked kind u → row_count kind u ≡ value_count kind u
+    pub count-marked : true ≡ marked kind u → row_count u ≡ value_count kind u
     count-marked m = rw (← m)
 
     pub count_unmarked : false ≡ marked kind u → 0 ≡ value_count kind u
@@ -289,6 +336,10 @@ module _ {kind : ℕ → ℕ} (ok : Reads kind) where
         go : (t : Bool) → 0 < cond t count 0 → cond t count 0 ≡ count
         go true h = refl
         go false h = absurd (omega arith)
+
+  -- no values stand behind the start of the stretches
+  pub none_counted : (s : List ℕ) (i : ℕ) → None ≡ positive (rest_count kind 0 (line_from s (values_start kind i (line_from s i)))) → None ≡ positive (value_count kind (line_from s i))
+  none_counted s i h = ap positive (count-few (line_from s i) (not_given _ (rw (start-count s i) at h)))
 
   -- no delimiter row
   pub no_row : (on : Bool) (p : Point) (u : List ℕ) → 0 ≡ value_count kind u → None ≡ delimiter_at kind on p u

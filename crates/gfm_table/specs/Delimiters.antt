@@ -8,7 +8,8 @@ use Rattle.gfm_table.specs.declared.delimiter.Cell.{Cell}
 use Rattle.gfm_table.specs.declared.delimiter.Cell.TheVariants.{Empty, Value}
 use Rattle.gfm_table.specs.declared.delimiter.Values.{Values}
 use Rattle.tokenizer.specs.Points.{past}
-use Rattle.tokenizer.specs.Lines.{is_empty, unindented, blank}
+use Rattle.tokenizer.specs.Lines.{is_empty, indent, unindented, blank}
+use Rattle.gfm_table.specs.Machine.{pipe_first}
 use Rattle.gfm_table.specs.Heads.{untailed, hyphens, is_value, stretches, trimmed, untrailed, all_values, values, marked, is_delimiter_row}
 
 module _ (kind : ℕ → ℕ) where
@@ -78,11 +79,11 @@ module _ (kind : ℕ → ℕ) where
   abbrev pub rest_count : ℕ → List ℕ → ℕ
   rest_count n u = let cs = untrailed (trimmed kind (stretches kind u)) in cond (all_values kind cs) (n + length cs) 0
 
-  -- the values of a line, the outer dividers taken off, or 0 where a stretch is none
-  abbrev pub row_count : List ℕ → ℕ
-  row_count u = cond (all_values kind (values kind u)) (length (values kind u)) 0
+  -- where the stretches of the line u begin, which starts at the place i: behind its whitespace and a divider, if one stands there, or at i
+  abbrev pub values_start : ℕ → List ℕ → ℕ
+  values_start i u = cond (pipe_first kind (unindented kind u)) (i + length (indent kind u) + 1) i
 
-  -- the same, or 0 where the line has no colon and no divider
+  -- the values of a line, the outer dividers taken off, or 0 where a stretch is none, or the line has no colon and no divider
   abbrev pub value_count : List ℕ → ℕ
   value_count u = cond (marked kind u && all_values kind (values kind u)) (length (values kind u)) 0
 

@@ -1,12 +1,11 @@
 -- What the row machine's promises cite: the line ahead, runs of data, and what a row's pieces make of a state.
 use Rattle.std.specs.Prelude.{ℕ, zero, suc, ◌+◌, ◌≤◌, ◌<◌, ◌≡◌, List, [], ◌∷◌, Bool, false, cond, ◌||◌, ◌&&◌, not, eqb, leb, length, drop, Some, None}
 use Rattle.tokenizer.specs.declared.event.Point.{Point}
-use Rattle.tokenizer.specs.declared.event.Name.{Name}
 use Rattle.tokenizer.specs.Moves.{rest_of, Inside}
 use Rattle.gfm_table.specs.declared.states.Scan.{Scan}
-use Rattle.gfm_table.specs.declared.states.Step.{Step}
+use Rattle.std.specs.declared.ops.ControlFlow.{ControlFlow}
 use Rattle.gfm_table.specs.declared.pieces.HeadRow.{HeadRow}
-use Rattle.gfm_table.specs.declared.states.Step.TheVariants.{Paused, Ended}
+use Rattle.std.specs.declared.ops.ControlFlow.TheVariants.{Continue, Break}
 use Rattle.tokenizer.specs.Events
 use Rattle.tokenizer.specs.Points.{past}
 use Rattle.tokenizer.specs.Lines.{unindented}
@@ -45,7 +44,7 @@ counted_as divider q =
     record { at = q.at; from = q.from; name = q.name; count = q.count; size = cond q.seen (q.size + 1) q.size; size_b = q.size_b + 1; seen = divider }
 
 -- a piece of the name n that ends at a point
-abbrev pub passed_to : Name → Point → Scan → Scan
+abbrev pub passed_to : ℕ → Point → Scan → Scan
 passed_to n p q = record { at = p; from = q.at; name = Some n; count = q.count + 1; size = q.size; size_b = q.size_b; seen = q.seen }
 
 -- a piece is read: counted if it is no whitespace, and passed
@@ -54,7 +53,7 @@ stepped q x =
     record {
       at = past q.at x.text;
       from = q.at;
-      name = Some (Events.named x.name);
+      name = Some x.name;
       count = q.count + 1;
       size = cond (is_solid x.name && q.seen) (q.size + 1) q.size;
       size_b = cond (is_solid x.name) (q.size_b + 1) q.size_b;
@@ -66,15 +65,15 @@ unfoldable pub walked : Scan → List Piece → Scan
 walked q [] = q
 walked q (x ∷ xs) = walked (stepped q x) xs
 
--- a state after at most n of them: paused after n, ended where there are fewer
-unfoldable pub outcome : ℕ → Scan → List Piece → Step
-outcome zero q xs = Paused q
-outcome (suc n) q [] = Ended q
+-- a state after at most n of them: it goes on after n, and breaks off where there are fewer
+unfoldable pub outcome : ℕ → Scan → List Piece → ControlFlow Scan Scan
+outcome zero q xs = Continue q
+outcome (suc n) q [] = Break q
 outcome (suc n) q (x ∷ xs) = outcome n (stepped q x) xs
 
-abbrev pub state_of : Step → Scan
-state_of (Paused q) = q
-state_of (Ended q) = q
+abbrev pub state_of : ControlFlow Scan Scan → Scan
+state_of (Continue q) = q
+state_of (Break q) = q
 
 module _ (kind : ℕ → ℕ) where
   -- the pieces that are still to come at a point
@@ -94,12 +93,12 @@ pub record Counted (s : List ℕ) (q : Scan) : Type 0 where
 
 module _ (kind : ℕ → ℕ) where
   -- reading n pieces from a state: the outcome, and what is still to come after it
-  pub record Read (s : List ℕ) (q : Scan) (n : ℕ) (xs : List Piece) (r : Step) : Type 0 where
+  pub record Read (s : List ℕ) (q : Scan) (n : ℕ) (xs : List Piece) (r : ControlFlow Scan Scan) : Type 0 where
     pub is : r ≡ outcome n q xs
     pub left : (pieces_at kind) s (state_of r).at ≡ drop n xs
     pub good : Counted s (state_of r)
 
-  abbrev pub ReadHere : List ℕ → Scan → ℕ → Step → Type 0
+  abbrev pub ReadHere : List ℕ → Scan → ℕ → ControlFlow Scan Scan → Type 0
   ReadHere s q n r = Read s q n (pieces_at kind s q.at) r
 
   -- at a byte of data

@@ -1,5 +1,5 @@
 -- The pieces of a row by the places of its bytes, and their events written to slots.
-use Rattle.std.specs.Prelude.{ℕ, ◌≡◌, ◌+◌, ◌*◌, List, [], ◌∷◌, length, Option, Some, None}
+use Rattle.std.specs.Prelude.{ℕ, ◌≡◌, ◌≤◌, ◌+◌, ◌*◌, List, [], ◌∷◌, length, Option, Some, None}
 use Rattle.tokenizer.specs.declared.event.Point.{Point}
 use Rattle.tokenizer.specs.declared.event.Event.{Event}
 use Rattle.tokenizer.specs.declared.event.Name.{Name}
@@ -8,6 +8,7 @@ use Rattle.tokenizer.specs.Points.{column_past, past}
 use Rattle.tokenizer.specs.Slots.{wrote}
 use Rattle.tokenizer.specs.Moves.{rest_of}
 use Rattle.gfm_table.specs.declared.stream.Part.{Part}
+use Rattle.gfm_table.specs.declared.rows.Stop.{Stop}
 use Rattle.gfm_table.specs.declared.rows.Placed.{Placed}
 use Rattle.gfm_table.specs.declared.rows.Reached.{Reached}
 use Rattle.gfm_table.specs.Rows.{Piece, passed, all_both}
@@ -16,6 +17,10 @@ use Rattle.gfm_table.specs.Stream.{pieces_of}
 -- the point of the place i in the column c of a line
 abbrev pub point_in : ℕ → ℕ → ℕ → Point
 point_in l i c = record { line = l; column = c; index = i; vs = 0 }
+
+-- a place in a sheet, and a column there that is no further right than tabs can take it
+abbrev pub Near : List ℕ → Stop → Type 0
+Near s p = (p.at ≤ length s) × (p.column ≤ 4 * p.at + 1)
 
 -- the kind of a byte that is no whitespace, no line end and no divider
 abbrev pub Solid : ℕ → Type 0

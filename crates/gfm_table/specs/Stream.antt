@@ -37,7 +37,7 @@ piece_at kind s t p = first_of p (pieces_of kind t (rest_of s p))
 
 -- between two pieces the next is entered, or the row is left
 abbrev pub between_of : Part → Point → Option Pieced → Stepped
-between_of t p (Some x) = record { event = enter (number x.name) p; next = Entered t x.name x.end }
+between_of t p (Some x) = record { event = enter (number x.name) p; next = Entered t (number x.name) x.end }
 between_of t p None = record { event = leave (name_of t) p; next = Ended t p }
 
 -- nothing more comes from a point on
@@ -60,7 +60,7 @@ module _ (kind : ℕ → ℕ) where
   step_of s (Begin p) = record { event = enter GfmTableHead p; next = Enter Head p }
   step_of s (Enter t p) = record { event = enter (name_of t) p; next = Between t p }
   step_of s (Between t p) = between_of t p (piece_at kind s t p)
-  step_of s (Entered t n p) = record { event = leave (number n) p; next = Between t p }
+  step_of s (Entered t n p) = record { event = leave n p; next = Between t p }
   step_of s (Ended t p) = ended_of s t p
   step_of s (Broken t p) = record { event = leave LineEnding p; next = Enter t p }
 

@@ -10,10 +10,10 @@ use crate::heads::{Opened, head_at};
 use crate::pieces::marks_from;
 use crate::states::row;
 use crate::stream::{Cursor, Part};
-use tokenizer::event::Point;
+use tokenizer::event::{LineStart, Point};
 use tokenizer::lines::{line_number, starts_line};
 use tokenizer::refusal::Refusal;
-use tokenizer::text::Text;
+use tokenizer::text::{Sheet, Text, length_asked};
 
 // Of a head that is accepted: the number of its events, the offset where its delimiter row ends, and its cells.
 #[derive(Clone, Copy, PartialEq, Eq)]
@@ -59,9 +59,7 @@ pub struct Plan<A> {
 pub fn place_asked(s: &[u8], at: usize) -> Result<(), Refusal>
     ensures { result ≡ answered (place_refusal s.now at) tt }
 {
-    if 65536 < s.len() {
-        return Err(Refusal::SheetTooLong);
-    }
+    length_asked(s)?;
     if !starts_line(s, at) {
         return Err(Refusal::NoLineStart);
     }
@@ -73,32 +71,32 @@ pub fn point_at(s: &[u8], at: usize) -> Point
     requires { at ≤ length s.now × at ≤ 65536 }
     ensures { result ≡ point_at s.now at }
 {
-    Point {
+    LineStart {
         line: line_number(s, at),
-        index: at as u32,
-        ..Point::START
+        at: at as u32,
     }
+    .point()
 }
 
 // How many events a head has.
-pub fn head_events(text: &Text, o: Opened) -> usize
+pub fn head_events(text: &Sheet, o: Opened) -> usize
     requires { Inside text.now.bytes.now o.delimiter × (o.pieces ≤ 65536) }
     ensures { result ≡ 2 * (o.pieces + length (delimiter_pieces (kind_in text.now.kinds.now) (rest_of text.now.bytes.now o.delimiter))) + 8 }
 {
     2 * (o.pieces + marks_from(text, o.delimiter.index as usize)) as usize + 8
 }
 
-// Everything about a head but its slots.
-pub fn head_plan(
-    text: &Text,
+// Questions 3 to 7 and 9 of a head, at a line start.
+fn head_placed(
+    text: &Sheet,
     at: usize,
     on: bool,
     stray: bool,
     slots: usize,
 ) -> Result<Plan<HeadCounts>, Refusal>
+    requires { place_refusal text.now.bytes.now at ≡ 0 }
     ensures { result ≡ head_plan (kind_in text.now.kinds.now) text.now.bytes.now at on stray slots }
 {
-    place_asked(text.bytes, at)?;
     let p = point_at(text.bytes, at);
     let opened = head_at(text, p, on, stray)?;
     let events = head_events(text, opened);
@@ -115,16 +113,25 @@ pub fn head_plan(
     })
 }
 
-// Everything about a row but its slots.
-pub fn row_plan(
-    text: &Text,
+// Everything about a head but its slots.
+pub fn head_plan<const MOST: usize>(
+    text: &Text<MOST>,
     at: usize,
-    lazy: bool,
+    on: bool,
+    stray: bool,
     slots: usize,
-) -> Result<Plan<RowCounts>, Refusal>
-    ensures { result ≡ row_plan (kind_in text.now.kinds.now) text.now.bytes.now at lazy slots }
+) -> Result<Plan<HeadCounts>, Refusal>
+    ensures { result ≡ head_plan (kind_in text.now.kinds.now) text.now.bytes.now at on stray slots }
 {
     place_asked(text.bytes, at)?;
+    head_placed(&text.short(), at, on, stray, slots)
+}
+
+// Questions 5, 8 and 9 of a row, at a line start.
+fn row_placed(text: &Sheet, at: usize, lazy: bool, slots: usize) -> Result<Plan<RowCounts>, Refusal>
+    requires { place_refusal text.now.bytes.now at ≡ 0 }
+    ensures { result ≡ row_plan (kind_in text.now.kinds.now) text.now.bytes.now at lazy slots }
+{
     if lazy {
         return Err(Refusal::LazyOrPierced);
     }
@@ -144,4 +151,17 @@ pub fn row_plan(
         },
         cursor: Cursor::Enter(Part::Body, p),
     })
+}
+
+// Everything about a row but its slots.
+pub fn row_plan<const MOST: usize>(
+    text: &Text<MOST>,
+    at: usize,
+    lazy: bool,
+    slots: usize,
+) -> Result<Plan<RowCounts>, Refusal>
+    ensures { result ≡ row_plan (kind_in text.now.kinds.now) text.now.bytes.now at lazy slots }
+{
+    place_asked(text.bytes, at)?;
+    row_placed(&text.short(), at, lazy, slots)
 }

@@ -1,4 +1,5 @@
-// The states of a delimiter row.
+// The states of a delimiter row, by points: the port has the crate's, function for function, and `head` answers by them. The walk over a sheet counts
+// by places, in `values`: the search for heads by points was among what took most of its time (docs/PERFORMANCE.md).
 ghost use Rattle.std.specs.Prelude.{◌≡◌, ◌≤◌, length, drop};
 ghost use Rattle.tokenizer.specs.Bytes.{kind_in};
 ghost use Rattle.tokenizer.specs.Lines.{is_empty, line_body};
@@ -7,11 +8,11 @@ ghost use Rattle.gfm_table.specs.Heads.{permitted};
 ghost use Rattle.gfm_table.specs.Delimiters.{stretch, blank_at, closed_at, hyphens_at, cell_at, rest_at, values_at, delimiter_at};
 
 use crate::values::marked_from;
-use tokenizer::event::Point;
+use tokenizer::event::{LineStart, Point};
 use tokenizer::kinds::Kind;
 use tokenizer::moves::over;
 use tokenizer::partial_space_or_tab::space_ends;
-use tokenizer::text::Text;
+use tokenizer::text::{Sheet, Text};
 
 // What stands between two dividers: nothing but whitespace, or a value. The point is the end of the stretch.
 #[derive(Clone, Copy)]
@@ -28,26 +29,23 @@ pub struct Values {
 }
 
 // Whether a stretch ends here: at a divider, a line end or the sheet's end.
-pub fn stretch_ends(text: &Text, p: Point) -> bool
+pub fn stretch_ends<const MOST: usize>(text: &Text<MOST>, p: Point) -> bool
     ensures { result ≡ is_empty (stretch (kind_in text.now.kinds.now) (rest_of text.now.bytes.now p)) }
 {
     matches!(text.ahead(p), Kind::End | Kind::Pipe)
 }
 
 // After a value: whitespace, and the end of the stretch.
-pub fn head_delimiter_cell_after(text: &Text, p: Point) -> Option<Cell>
+pub fn head_delimiter_cell_after(text: &Sheet, p: Point) -> Option<Cell>
     requires { Inside text.now.bytes.now p }
     ensures { result ≡ blank_at (kind_in text.now.kinds.now) p (rest_of text.now.bytes.now p) }
 {
     let e = text.space_end(p);
-    if stretch_ends(text, e) {
-        return Some(Cell::Value(e));
-    }
-    None
+    stretch_ends(text, e).then_some(Cell::Value(e))
 }
 
 // After a value's hyphens: an optional colon.
-pub fn head_delimiter_filler(text: &Text, p: Point) -> Option<Cell>
+pub fn head_delimiter_filler(text: &Sheet, p: Point) -> Option<Cell>
     requires { Inside text.now.bytes.now p }
     ensures { result ≡ closed_at (kind_in text.now.kinds.now) p (rest_of text.now.bytes.now p) }
 {
@@ -58,7 +56,7 @@ pub fn head_delimiter_filler(text: &Text, p: Point) -> Option<Cell>
 }
 
 // At a value's hyphens, after an optional colon.
-pub fn head_delimiter_left_alignment_after(text: &Text, p: Point) -> Option<Cell>
+pub fn head_delimiter_left_alignment_after(text: &Sheet, p: Point) -> Option<Cell>
     requires { Inside text.now.bytes.now p }
     ensures { result ≡ hyphens_at (kind_in text.now.kinds.now) p (rest_of text.now.bytes.now p) }
 {
@@ -69,7 +67,7 @@ pub fn head_delimiter_left_alignment_after(text: &Text, p: Point) -> Option<Cell
 }
 
 // One stretch of a delimiter row, if it is empty or a value.
-pub fn head_delimiter_value_before(text: &Text, p: Point) -> Option<Cell>
+pub fn head_delimiter_value_before(text: &Sheet, p: Point) -> Option<Cell>
     requires { Inside text.now.bytes.now p }
     ensures { result ≡ cell_at (kind_in text.now.kinds.now) p (rest_of text.now.bytes.now p) }
 {
@@ -84,7 +82,7 @@ pub fn head_delimiter_value_before(text: &Text, p: Point) -> Option<Cell>
 }
 
 // The stretches that are left, after n values, if each is a value but for an empty last one.
-pub fn head_delimiter_cells(text: &Text, p: Point, n: u32) -> Option<Values>
+pub fn head_delimiter_cells(text: &Sheet, p: Point, n: u32) -> Option<Values>
     requires { Inside text.now.bytes.now p × (n ≤ p.index) }
     ensures { result ≡ rest_at (kind_in text.now.kinds.now) n p (rest_of text.now.bytes.now p) }
 {
@@ -110,7 +108,7 @@ pub fn head_delimiter_cells(text: &Text, p: Point, n: u32) -> Option<Values>
 }
 
 // All stretches. A leading divider has nothing before it.
-pub fn head_delimiter_before(text: &Text, p: Point) -> Option<Values>
+pub fn head_delimiter_before(text: &Sheet, p: Point) -> Option<Values>
     requires { Inside text.now.bytes.now p }
     ensures { result ≡ values_at (kind_in text.now.kinds.now) p (rest_of text.now.bytes.now p) }
 {
@@ -122,22 +120,22 @@ pub fn head_delimiter_before(text: &Text, p: Point) -> Option<Values>
 }
 
 // Whether the indent of the line at a place is permitted. Most lines have none.
-pub fn permits_at(text: &Text, at: usize, on: bool) -> bool
-    requires { (length text.now.bytes.now ≤ 65536) × (at ≤ length text.now.bytes.now) }
+pub fn permits_at(text: &Sheet, at: usize, on: bool) -> bool
+    requires { at ≤ length text.now.bytes.now }
     ensures { result ≡ permitted (kind_in text.now.kinds.now) on (line_body (drop at text.now.bytes.now)) }
 {
     if on && text.kind_at(at) == Kind::Space {
-        let p = Point {
-            index: at as u32,
-            ..Point::START
+        let start = LineStart {
+            line: 1,
+            at: at as u32,
         };
-        return space_ends(text.bytes, p, Point::INDENT_CAP);
+        return space_ends(text.bytes, start.point(), Point::INDENT_CAP);
     }
     true
 }
 
-// The same at a point.
-pub fn permits(text: &Text, p: Point, on: bool) -> bool
+// The same at a point, whose place is named here once.
+pub fn permits(text: &Sheet, p: Point, on: bool) -> bool
     requires { Inside text.now.bytes.now p × (p.column ≡ 1) }
     ensures { result ≡ permitted (kind_in text.now.kinds.now) on (rest_of text.now.bytes.now p) }
 {
@@ -145,22 +143,18 @@ pub fn permits(text: &Text, p: Point, on: bool) -> bool
 }
 
 // The delimiter row, if the line is one: the number of its values and its end.
-pub fn head_delimiter_row(text: &Text, p: Point, on: bool) -> Option<Values>
+pub fn head_delimiter_row(text: &Sheet, p: Point, on: bool) -> Option<Values>
     requires { Inside text.now.bytes.now p × (p.column ≡ 1) }
     ensures { result ≡ delimiter_at (kind_in text.now.kinds.now) on p (rest_of text.now.bytes.now p) }
 {
     if !permits(text, p, on) || !marked_from(text, p.index as usize) {
         return None;
     }
-    let values = head_delimiter_before(text, p)?;
-    if values.count == 0 {
-        return None;
-    }
-    Some(values)
+    head_delimiter_before(text, p).filter(|values| values.count != 0)
 }
 
-// The same. A line whose first byte is no whitespace, divider, hyphen or colon is refused at once: most are such.
-pub fn head_delimiter_start(text: &Text, p: Point, on: bool) -> Option<Values>
+// As `head_delimiter_row`, but a line whose first byte is no whitespace, divider, hyphen or colon is refused at once: most are such.
+pub fn head_delimiter_start(text: &Sheet, p: Point, on: bool) -> Option<Values>
     requires { Inside text.now.bytes.now p × (p.column ≡ 1) }
     ensures { result ≡ delimiter_at (kind_in text.now.kinds.now) on p (rest_of text.now.bytes.now p) }
 {

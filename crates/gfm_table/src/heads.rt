@@ -9,7 +9,7 @@ use crate::states::row;
 use tokenizer::event::Point;
 use tokenizer::lines::end_at;
 use tokenizer::refusal::Refusal;
-use tokenizer::text::Text;
+use tokenizer::text::Sheet;
 
 // A head: its cells, the pieces of its line, where its delimiter row starts, and where that ends.
 #[derive(Clone, Copy)]
@@ -21,7 +21,7 @@ pub struct Opened {
 }
 
 // Questions 3 to 7 of a head line and the line after it.
-pub fn head_at(text: &Text, p: Point, on: bool, stray: bool) -> Result<Opened, Refusal>
+pub fn head_at(text: &Sheet, p: Point, on: bool, stray: bool) -> Result<Opened, Refusal>
     requires { Inside text.now.bytes.now p × (p.column ≡ 1) }
     ensures { result ≡ head_at (kind_in text.now.kinds.now) text.now.bytes.now p on stray }
 {
@@ -29,8 +29,10 @@ pub fn head_at(text: &Text, p: Point, on: bool, stray: bool) -> Result<Opened, R
         return Err(Refusal::IndentTooWide);
     }
     let r = row(text, p);
-    let n = end_at(text.bytes, r.at);
-    if n == 0 || r.size_b <= 1 {
+    let Some(n) = end_at(text.bytes, r.at) else {
+        return Err(Refusal::NoHeadLine);
+    };
+    if r.size_b <= 1 {
         return Err(Refusal::NoHeadLine);
     }
     if stray {

@@ -11,7 +11,7 @@ use tokenizer::event::Event;
 use tokenizer::kinds::builtin;
 use tokenizer::refusal::Refusal;
 use tokenizer::slots::clear_from;
-use tokenizer::text::Text;
+use tokenizer::text::{AnyText, Text};
 
 pub mod calls;
 pub mod delimiter;
@@ -35,7 +35,7 @@ pub fn head(
     ensures { (result ≡ head_of kind_of sheet.now offset code_indented (lazy || pierced) (length raw.old)) × (raw.new ≡ head_slots kind_of sheet.now offset code_indented (lazy || pierced) (length raw.old)) }
 {
     let kinds = builtin();
-    let text = Text {
+    let text: AnyText = Text {
         bytes: sheet,
         kinds: &kinds,
     };
@@ -58,7 +58,7 @@ pub fn row(sheet: &[u8], offset: usize, lazy: bool, raw: &mut [Event]) -> Result
     ensures { (result ≡ row_of kind_of sheet.now offset lazy (length raw.old)) × (raw.new ≡ row_slots kind_of sheet.now offset lazy (length raw.old)) }
 {
     let kinds = builtin();
-    let text = Text {
+    let text: AnyText = Text {
         bytes: sheet,
         kinds: &kinds,
     };

@@ -8,10 +8,10 @@ ghost use Rattle.gfm_table.specs.Delimiters.{filler_run};
 
 use crate::states::row_escape;
 use tokenizer::kinds::Kind;
-use tokenizer::text::Text;
+use tokenizer::text::{Sheet, Text};
 
 // The end of a run of data. The byte behind a backslash may be passed with it, so the place is counted by hand.
-pub fn text_end(text: &Text, at: usize) -> usize
+pub fn text_end<const MOST: usize>(text: &Text<MOST>, at: usize) -> usize
     ensures { result ≡ at + length (data_run (kind_in text.now.kinds.now) false (line_body (drop at text.now.bytes.now))) }
 {
     let mut i = at;
@@ -38,8 +38,8 @@ pub struct HeadRow {
 }
 
 // The head line from a place to its end. A cell begins with a solid piece that follows a divider. The place goes on by whole pieces.
-pub fn head_row(text: &Text, at: usize) -> HeadRow
-    requires { (length text.now.bytes.now ≤ 65536) × (at ≤ length text.now.bytes.now) }
+pub fn head_row(text: &Sheet, at: usize) -> HeadRow
+    requires { at ≤ length text.now.bytes.now }
     ensures { HeadRead (kind_in text.now.kinds.now) (line_body (drop at text.now.bytes.now)) result }
 {
     let mut i = at;
@@ -71,7 +71,7 @@ pub fn head_row(text: &Text, at: usize) -> HeadRow
 }
 
 // The end of a run of bytes that a delimiter row names fillers.
-pub fn fillers_end(text: &Text, at: usize) -> usize
+pub fn fillers_end<const MOST: usize>(text: &Text<MOST>, at: usize) -> usize
     ensures { result ≡ at + length (filler_run (kind_in text.now.kinds.now) (line_body (drop at text.now.bytes.now))) }
 {
     for i in at..text.bytes.len() {
@@ -86,8 +86,8 @@ pub fn fillers_end(text: &Text, at: usize) -> usize
 }
 
 // How many pieces a delimiter row has, from a place to the end of its line. The place goes on by whole pieces.
-pub fn marks_from(text: &Text, at: usize) -> u32
-    requires { (length text.now.bytes.now ≤ 65536) × (at ≤ length text.now.bytes.now) }
+pub fn marks_from(text: &Sheet, at: usize) -> u32
+    requires { at ≤ length text.now.bytes.now }
     ensures { result ≡ length (delimiter_pieces (kind_in text.now.kinds.now) (line_body (drop at text.now.bytes.now))) }
 {
     let mut i = at;

@@ -8,16 +8,17 @@ ghost use Rattle.tokenizer.specs.Moves.{ahead_of, Inside};
 ghost use Rattle.gfm_table.specs.declared.stream.Part.{Part};
 ghost use Rattle.gfm_table.specs.declared.stream.Part.TheVariants.{Delimiter, Body};
 ghost use Rattle.gfm_table.specs.Stream.{pieces_of};
-ghost use Rattle.gfm_table.specs.Places.{point_in, Solid, next_at, row_end, row_wrote};
+ghost use Rattle.gfm_table.specs.Places.{point_in, Near, Solid, next_at, row_end, row_wrote};
 
 use crate::pieces::{fillers_end, text_end};
 use crate::stream::Part;
 use tokenizer::event::{Event, LineStart, Name, Point, column_after};
 use tokenizer::kinds::Kind;
 use tokenizer::slots::put;
-use tokenizer::text::Text;
+use tokenizer::text::Sheet;
 
-// Where a run of bytes ends, and the column there.
+// Where a run of bytes ends, and the column there. That it lies in a sheet is asked by `Near`, since the place alone knows no sheet. `Placed`,
+// `Reached` and the records of cells and sheets above have its two fields of their own: with a `Stop` in them each definition would name it.
 #[derive(Clone, Copy)]
 pub struct Stop {
     pub at: u32,
@@ -41,13 +42,13 @@ pub struct Reached {
     pub slot: usize,
 }
 
-// The end of a run of spaces and tabs, and the column there.
-pub fn spaces_past(text: &Text, at: u32, column: u32) -> Stop
-    requires { (length text.now.bytes.now ≤ 65536) × (at ≤ length text.now.bytes.now) × (column ≤ 4 * at + 1) }
-    ensures { (result.at ≡ at + length (indent (kind_in text.now.kinds.now) (line_body (drop at text.now.bytes.now)))) × (result.column ≡ column_past column (indent (kind_in text.now.kinds.now) (line_body (drop at text.now.bytes.now)))) }
+// The end of a run of spaces and tabs, and the column there: both are told in one pass.
+pub fn spaces_past(text: &Sheet, from: Stop) -> Stop
+    requires { Near text.now.bytes.now from }
+    ensures { (result.at ≡ from.at + length (indent (kind_in text.now.kinds.now) (line_body (drop from.at text.now.bytes.now)))) × (result.column ≡ column_past from.column (indent (kind_in text.now.kinds.now) (line_body (drop from.at text.now.bytes.now)))) }
 {
-    let mut c = column;
-    for i in at as usize..text.bytes.len() {
+    let mut c = from.column;
+    for i in from.at as usize..text.bytes.len() {
         if text.kind_at(i) != Kind::Space {
             return Stop {
                 at: i as u32,
@@ -64,15 +65,15 @@ pub fn spaces_past(text: &Text, at: u32, column: u32) -> Stop
 
 impl Placed {
     // A piece without a tab, up to a place: each byte is one column.
-    pub fn flat(name: Name, at: u32, end: usize, column: u32) -> Placed
-        requires { (at ≤ end) × (end ≤ 65536) × (column ≤ 1000000) }
-        ensures { (result.name ≡ name) × (result.end ≡ end) × (result.column + at ≡ column + end) }
+    pub fn flat(name: Name, from: Stop, end: usize) -> Placed
+        requires { (from.at ≤ end) × (end ≤ 65536) × (from.column ≤ 1000000) }
+        ensures { (result.name ≡ name) × (result.end ≡ end) × (result.column + from.at ≡ from.column + end) }
     {
         let end = end as u32;
         Placed {
             name,
             end,
-            column: column + (end - at),
+            column: from.column + (end - from.at),
         }
     }
 
@@ -80,30 +81,14 @@ impl Placed {
     pub fn entry(self, line: u32, x: Reached) -> Event
         ensures { result ≡ enter (number self.name) (point_in line x.at x.column) }
     {
-        Event::enter(
-            self.name,
-            Point {
-                line,
-                column: x.column,
-                index: x.at,
-                vs: 0,
-            },
-        )
+        self.name.enter(Point::new(line, x.column, x.at))
     }
 
     // It is left.
     pub fn exit(self, line: u32) -> Event
         ensures { result ≡ leave (number self.name) (point_in line self.end self.column) }
     {
-        Event::exit(
-            self.name,
-            Point {
-                line,
-                column: self.column,
-                index: self.end,
-                vs: 0,
-            },
-        )
+        self.name.exit(Point::new(line, self.column, self.end))
     }
 }
 
@@ -116,9 +101,9 @@ pub trait RowKind {
         ensures { result ≡ part };
 
     // The piece at a byte that is no whitespace, no line end and no divider.
-    fn solid_piece(text: &Text, at: u32, column: u32) -> Placed
-        requires { (length text.now.bytes.now ≤ 65536) × (at ≤ length text.now.bytes.now) × (column ≤ 4 * at + 1) × Solid (ahead_of (kind_in text.now.kinds.now) (drop at text.now.bytes.now)) }
-        ensures { Some result ≡ next_at at column (pieces_of (kind_in text.now.kinds.now) part (line_body (drop at text.now.bytes.now))) };
+    fn solid_piece(text: &Sheet, from: Stop) -> Placed
+        requires { Near text.now.bytes.now from × Solid (ahead_of (kind_in text.now.kinds.now) (drop from.at text.now.bytes.now)) }
+        ensures { Some result ≡ next_at from.at from.column (pieces_of (kind_in text.now.kinds.now) part (line_body (drop from.at text.now.bytes.now))) };
 }
 
 // A head line or a body row: data.
@@ -131,8 +116,8 @@ impl RowKind for TextRow {
         Part::Body
     }
 
-    fn solid_piece(text: &Text, at: u32, column: u32) -> Placed {
-        Placed::flat(Name::Data, at, text_end(text, at as usize), column)
+    fn solid_piece(text: &Sheet, from: Stop) -> Placed {
+        Placed::flat(Name::Data, from, text_end(text, from.at as usize))
     }
 }
 
@@ -146,28 +131,23 @@ impl RowKind for DelimiterRow {
         Part::Delimiter
     }
 
-    fn solid_piece(text: &Text, at: u32, column: u32) -> Placed {
-        let i = at as usize;
+    fn solid_piece(text: &Sheet, from: Stop) -> Placed {
+        let i = from.at as usize;
         if text.kind_at(i) == Kind::Colon {
-            return Placed::flat(Name::GfmTableDelimiterMarker, at, i + 1, column);
+            return Placed::flat(Name::GfmTableDelimiterMarker, from, i + 1);
         }
-        Placed::flat(
-            Name::GfmTableDelimiterFiller,
-            at,
-            fillers_end(text, i),
-            column,
-        )
+        Placed::flat(Name::GfmTableDelimiterFiller, from, fillers_end(text, i))
     }
 }
 
-// The next piece of a row, if one is left. The place and the column are no struct here: callers have them in records of their own.
-pub fn next_piece<R: RowKind>(text: &Text, at: u32, column: u32) -> Option<Placed>
-    requires { (length text.now.bytes.now ≤ 65536) × (at ≤ length text.now.bytes.now) × (column ≤ 4 * at + 1) }
-    ensures { result ≡ next_at at column (pieces_of (kind_in text.now.kinds.now) R.part (line_body (drop at text.now.bytes.now))) }
+// The next piece of a row, if one is left.
+pub fn next_piece<R: RowKind>(text: &Sheet, from: Stop) -> Option<Placed>
+    requires { Near text.now.bytes.now from }
+    ensures { result ≡ next_at from.at from.column (pieces_of (kind_in text.now.kinds.now) R.part (line_body (drop from.at text.now.bytes.now))) }
 {
-    match text.kind_at(at as usize) {
+    match text.kind_at(from.at as usize) {
         Kind::Space => {
-            let stop = spaces_past(text, at, column);
+            let stop = spaces_past(text, from);
             Some(Placed {
                 name: Name::SpaceOrTab,
                 end: stop.at,
@@ -175,8 +155,8 @@ pub fn next_piece<R: RowKind>(text: &Text, at: u32, column: u32) -> Option<Place
             })
         }
         Kind::End => None,
-        Kind::Pipe => Some(Placed::flat(Name::GfmTableCellDivider, at, at as usize + 1, column)),
-        _ => Some(R::solid_piece(text, at, column)),
+        Kind::Pipe => Some(Placed::flat(Name::GfmTableCellDivider, from, from.at as usize + 1)),
+        _ => Some(R::solid_piece(text, from)),
     }
 }
 
@@ -190,6 +170,14 @@ impl Reached {
             column: 1,
             slot,
         }
+    }
+
+    // The place, and the column there.
+    pub fn stop(self) -> Stop
+        ensures { result ≡ record { at = self.at; column = self.column } }
+    {
+        let Reached { at, column, .. } = self;
+        Stop { at, column }
     }
 
     // Behind a piece, whose two events are written.
@@ -207,7 +195,7 @@ impl Reached {
 
 // The events of the pieces of a row, from its first byte, into the slots from a place on.
 pub fn write_row<R: RowKind>(
-    text: &Text,
+    text: &Sheet,
     from: LineStart,
     slots: &mut [Event],
     to: usize,
@@ -216,7 +204,7 @@ pub fn write_row<R: RowKind>(
     ensures { (result ≡ row_end (kind_in text.now.kinds.now) text.now.bytes.now R.part (start_of from) to) × (slots.new ≡ row_wrote (kind_in text.now.kinds.now) text.now.bytes.now R.part (start_of from) to slots.old) }
 {
     let mut x = Reached::first(from, to);
-    while let Some(piece) = next_piece::<R>(text, x.at, x.column) {
+    while let Some(piece) = next_piece::<R>(text, x.stop()) {
         put(slots, x.slot, piece.entry(from.line, x));
         put(slots, x.slot + 1, piece.exit(from.line));
         x = x.behind(piece);

@@ -3,13 +3,13 @@ ghost use Rattle.std.specs.Prelude.{◌≡◌, ◌≤◌, ◌+◌, length, drop}
 ghost use Rattle.tokenizer.specs.Bytes.{kind_in};
 ghost use Rattle.tokenizer.specs.Lines.{line_body};
 ghost use Rattle.gfm_table.specs.Heads.{marked};
-ghost use Rattle.gfm_table.specs.Delimiters.{colon, value_end, rest_count, row_count, value_count, positive};
+ghost use Rattle.gfm_table.specs.Delimiters.{colon, value_end, rest_count, values_start, value_count, positive};
 
 use tokenizer::kinds::Kind;
-use tokenizer::text::Text;
+use tokenizer::text::{Sheet, Text};
 
 // Whether a colon or a divider occurs from a place to the end of its line.
-pub fn marked_from(text: &Text, at: usize) -> bool
+pub fn marked_from<const MOST: usize>(text: &Text<MOST>, at: usize) -> bool
     ensures { result ≡ marked (kind_in text.now.kinds.now) (line_body (drop at text.now.bytes.now)) }
 {
     for i in at..text.bytes.len() {
@@ -27,7 +27,7 @@ pub fn marked_from(text: &Text, at: usize) -> bool
 }
 
 // Behind a colon, if one stands at a place.
-pub fn colon_end(text: &Text, at: usize) -> usize
+pub fn colon_end<const MOST: usize>(text: &Text<MOST>, at: usize) -> usize
     ensures { result ≡ at + length (colon (kind_in text.now.kinds.now) (line_body (drop at text.now.bytes.now))) }
 {
     if text.kind_at(at) == Kind::Colon {
@@ -37,7 +37,7 @@ pub fn colon_end(text: &Text, at: usize) -> usize
 }
 
 // The end of the stretch at a place if it is a value.
-pub fn value_end(text: &Text, at: usize) -> Option<usize>
+pub fn value_end<const MOST: usize>(text: &Text<MOST>, at: usize) -> Option<usize>
     ensures { result ≡ value_end (kind_in text.now.kinds.now) at (line_body (drop at text.now.bytes.now)) }
 {
     let a = colon_end(text, text.space_stop(at));
@@ -46,15 +46,12 @@ pub fn value_end(text: &Text, at: usize) -> Option<usize>
         return None;
     }
     let e = text.space_stop(colon_end(text, b));
-    match text.kind_at(e) {
-        Kind::End | Kind::Pipe => Some(e),
-        _ => None,
-    }
+    matches!(text.kind_at(e), Kind::End | Kind::Pipe).then_some(e)
 }
 
 // The number of stretches from a place on, less an empty last one, if each is a value and there is one. The place goes on by whole stretches.
-pub fn values_from(text: &Text, at: usize) -> Option<u32>
-    requires { (length text.now.bytes.now ≤ 65536) × (at ≤ length text.now.bytes.now) }
+pub fn values_from(text: &Sheet, at: usize) -> Option<u32>
+    requires { at ≤ length text.now.bytes.now }
     ensures { result ≡ positive (rest_count (kind_in text.now.kinds.now) 0 (line_body (drop at text.now.bytes.now))) }
 {
     let mut i = at;
@@ -73,9 +70,8 @@ pub fn values_from(text: &Text, at: usize) -> Option<u32>
 }
 
 // Where the stretches of a row begin: behind a leading divider, or with its line.
-pub fn values_start(text: &Text, at: usize) -> usize
-    requires { at ≤ length text.now.bytes.now }
-    ensures { (result ≤ length text.now.bytes.now) × (rest_count (kind_in text.now.kinds.now) 0 (line_body (drop result text.now.bytes.now)) ≡ row_count (kind_in text.now.kinds.now) (line_body (drop at text.now.bytes.now))) }
+pub fn values_start<const MOST: usize>(text: &Text<MOST>, at: usize) -> usize
+    ensures { result ≡ values_start (kind_in text.now.kinds.now) at (line_body (drop at text.now.bytes.now)) }
 {
     let a = text.space_stop(at);
     if text.kind_at(a) == Kind::Pipe {
@@ -85,10 +81,10 @@ pub fn values_start(text: &Text, at: usize) -> usize
 }
 
 // How many values a row has, from a place to the end of its line, if it is a row of values with a colon or a divider.
-pub fn values_row(text: &Text, at: usize) -> Option<u32>
-    requires { (length text.now.bytes.now ≤ 65536) × (at ≤ length text.now.bytes.now) }
+pub fn values_row(text: &Sheet, at: usize) -> Option<u32>
+    requires { at ≤ length text.now.bytes.now }
     ensures { result ≡ positive (value_count (kind_in text.now.kinds.now) (line_body (drop at text.now.bytes.now))) }
 {
     let n = values_from(text, values_start(text, at))?;
-    if marked_from(text, at) { Some(n) } else { None }
+    marked_from(text, at).then_some(n)
 }

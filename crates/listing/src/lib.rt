@@ -2,6 +2,7 @@
 #![tactic(auto)]
 
 use edit_map::resolve_base::{is_entry, is_exit};
+use gfm_table::stream::Part;
 use protocol::input::fill;
 use sheet::sheet;
 use std::io;
@@ -10,20 +11,11 @@ use tokenizer::event::{Event, Name};
 use tokenizer::kinds::builtin;
 use tokenizer::refusal::Refusal;
 
-// Where in a table a row stands.
-#[derive(Clone, Copy)]
-enum Part {
-    Head,
-    Body,
-}
-
-impl Part {
-    // The letter of its cells.
-    fn letter(self) -> char {
-        match self {
-            Part::Head => 'H',
-            Part::Body => 'B',
-        }
+// The letter of a row's cells.
+fn row_letter(part: Part) -> char {
+    match part {
+        Part::Head | Part::Delimiter => 'H',
+        Part::Body => 'B',
     }
 }
 
@@ -58,7 +50,7 @@ impl Seen<'_> {
         writeln!(
             out,
             "{} {} {} {}",
-            self.part.letter(),
+            row_letter(self.part),
             self.line,
             self.offset,
             self.length
@@ -132,6 +124,7 @@ fn refused(out: &mut impl Write, refusal: Refusal) -> io::Result<()> {
 
 // What is printed for a sheet.
 fn sheet_listed(out: &mut impl Write, text: &[u8]) -> io::Result<()> {
+    // An array of a fixed size: the project has no heap.
     let mut raw = [Event::BLANK; 1024];
     let mut results = [Event::BLANK; 1024];
     let mut alignments = [0u8; 1024];
@@ -153,6 +146,7 @@ fn sheet_listed(out: &mut impl Write, text: &[u8]) -> io::Result<()> {
 
 // Reads the sheet and lists it.
 pub fn run(rt: &(impl Input + Print)) -> io::Result<()> {
+    // An array of a fixed size, since the project has no heap; a byte more than is listed, so that a longer sheet is seen.
     let mut text = [0u8; 4097];
     let n = fill(&mut rt.reader(), &mut text)?;
     let mut out = io::writer(rt);

@@ -1,7 +1,8 @@
 // The six calls as numbers, by the names that `poolsheet_c` exports to C.
 #![tactic(auto)]
 
-ghost use Rattle.std.specs.Prelude.{◌≡◌, ◌||◌, length};
+ghost use Rattle.std.specs.Prelude.{◌≡◌, ◌||◌, [], ◌∷◌, length, replicate};
+ghost use Rattle.std.specs.Result.{result_unwrap_or};
 ghost use Rattle.tokenizer.specs.Bytes.{kind_of};
 ghost use Rattle.gfm_table.specs.Calls.{head_of, head_slots, row_of, row_slots};
 ghost use Rattle.edit_map.specs.Answers.{resolve_answer, resolve_slots, align_answer, align_slots};
@@ -10,14 +11,30 @@ ghost use Rattle.sheet.specs.Calls.{sheet_of, sheet_raw, sheet_results, sheet_al
 ghost use Rattle.tokenizer.specs.Refusals.{answer_number};
 ghost use Rattle.poolsheet.specs.Answers.{counts_of_head, counts_of_row, count_of, counts_of_sheet};
 
-use answers::{count, head_counts, number, row_counts, sheet_counts};
 use edit_map::edit_map::edit;
 use edit_map::infer::align;
 use edit_map::resolve::resolve;
 use gfm_table::{head, row};
 use tokenizer::event::Event;
+use tokenizer::refusal::{Refusal, answer_number};
 
-pub mod answers;
+// An answer's counts are stored, zeros where it is refused; its number.
+fn tell<const N: usize>(answer: &Result<[usize; N], Refusal>, counts: &mut [usize; N]) -> u8
+    ensures { (result ≡ answer_number answer.now) × (counts.new ≡ result_unwrap_or answer.now (replicate N 0)) }
+{
+    *counts = match answer {
+        Ok(c) => *c,
+        Err(_) => [0; N],
+    };
+    answer_number(answer)
+}
+
+// The counts of an answer that counts one thing.
+fn one(n: usize) -> [usize; 1]
+    ensures { result ≡ n ∷ [] }
+{
+    [n]
+}
 
 // A head at an offset. Counts: events, end, cells.
 pub fn poolsheet_head(
@@ -33,9 +50,10 @@ pub fn poolsheet_head(
         × ((raw.new ≡ head_slots kind_of sheet.now offset code_indented (lazy || pierced) (length raw.old))
         × (counts.new ≡ counts_of_head (head_of kind_of sheet.now offset code_indented (lazy || pierced) (length raw.old)))) }
 {
-    let a = head(sheet, offset, code_indented, lazy, pierced, raw);
-    *counts = head_counts(a);
-    number(a)
+    tell(
+        &head(sheet, offset, code_indented, lazy, pierced, raw).map(<[usize; 3]>::from),
+        counts,
+    )
 }
 
 // A body row at an offset. Counts: events, end.
@@ -50,9 +68,10 @@ pub fn poolsheet_row(
         × ((raw.new ≡ row_slots kind_of sheet.now offset lazy (length raw.old))
         × (counts.new ≡ counts_of_row (row_of kind_of sheet.now offset lazy (length raw.old)))) }
 {
-    let a = row(sheet, offset, lazy, raw);
-    *counts = row_counts(a);
-    number(a)
+    tell(
+        &row(sheet, offset, lazy, raw).map(<[usize; 2]>::from),
+        counts,
+    )
 }
 
 // The result events of a list of raw tables. Counts: events.
@@ -61,9 +80,7 @@ pub fn poolsheet_resolve(list: &[Event], results: &mut [Event], counts: &mut [us
         × ((results.new ≡ resolve_slots list.now (length results.old))
         × (counts.new ≡ count_of (resolve_answer list.now (length results.old)))) }
 {
-    let a = resolve(list, results);
-    *counts = count(a);
-    number(a)
+    tell(&resolve(list, results).map(one), counts)
 }
 
 // A list, edited, with additions from a pool. Counts: events.
@@ -79,9 +96,7 @@ pub fn poolsheet_edit(
         × ((results.new ≡ edit_results list.now edits.old pool.now (length results.old))
         × (counts.new ≡ count_of (edit_answer list.now edits.old pool.now (length results.old))))) }
 {
-    let a = edit(list, edits, pool, results);
-    *counts = count(a);
-    number(a)
+    tell(&edit(list, edits, pool, results).map(one), counts)
 }
 
 // The alignments of the table that the event at a place enters. Counts: alignments.
@@ -95,9 +110,7 @@ pub fn poolsheet_align(
         × ((alignments.new ≡ align_slots list.now index (length alignments.old))
         × (counts.new ≡ count_of (align_answer list.now index (length alignments.old)))) }
 {
-    let a = align(list, index, alignments);
-    *counts = count(a);
-    number(a)
+    tell(&align(list, index, alignments).map(one), counts)
 }
 
 // A whole sheet, read by a table of kinds. Counts: tables, raw events, result events, alignments.
@@ -116,7 +129,6 @@ pub fn poolsheet_sheet(
         × ((alignments.new ≡ sheet_aligned sheet.now kinds.now code_indented (length raw.old) (length results.old) (length alignments.old))
         × (counts.new ≡ counts_of_sheet (sheet_of sheet.now kinds.now code_indented (length raw.old) (length results.old) (length alignments.old)))))) }
 {
-    let a = sheet::sheet(sheet, kinds, code_indented, raw, results, alignments);
-    *counts = sheet_counts(a);
-    number(a)
+    let answer = sheet::sheet(sheet, kinds, code_indented, raw, results, alignments);
+    tell(&answer.map(<[usize; 4]>::from), counts)
 }

@@ -1,4 +1,5 @@
-// The static library for other languages: the six calls by their C names, each as the library's function of its name.
+// The static library for other languages: the six calls by their C names, each as the library's function of its name. Each is written out: an
+// exported name is a plain function.
 #![tactic(auto)]
 
 ghost use Rattle.std.specs.Prelude.{◌≡◌, ◌||◌, length};

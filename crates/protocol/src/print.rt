@@ -2,21 +2,19 @@
 ghost use Rattle.std.specs.Prelude.{◌≡◌, Bool, eqb};
 ghost use Rattle.protocol.specs.Records.{is_blank};
 
+use std::fmt::Display;
 use std::io;
 use std::io::Write;
 use tokenizer::event::Event;
-use tokenizer::refusal::Refusal;
+use tokenizer::refusal::{Refusal, answer_number};
 
 // What a slot may hold: blank ones at the end of a list are not written.
-pub trait Slot: Copy {
+pub trait Slot: Copy + Display {
     ghost blank: { Self → Bool };
 
     // Whether it holds nothing.
     fn is_blank(&self) -> bool
         ensures { result ≡ blank self.now };
-
-    // A space, and what it holds.
-    fn write(&self, out: &mut impl Write) -> io::Result<()>;
 }
 
 impl Slot for Event {
@@ -24,10 +22,6 @@ impl Slot for Event {
 
     fn is_blank(&self) -> bool {
         *self == Event::BLANK
-    }
-
-    fn write(&self, out: &mut impl Write) -> io::Result<()> {
-        event(out, *self)
     }
 }
 
@@ -37,19 +31,11 @@ impl Slot for u8 {
     fn is_blank(&self) -> bool {
         *self == 0
     }
-
-    fn write(&self, out: &mut impl Write) -> io::Result<()> {
-        write!(out, " {self}")
-    }
 }
 
 // A space and the seven numbers of an event.
 pub fn event(out: &mut impl Write, e: Event) -> io::Result<()> {
-    write!(
-        out,
-        " {},{},{},{},{},{},{}",
-        e.kind, e.name, e.line, e.column, e.index, e.vs, e.link
-    )
+    write!(out, " {e}")
 }
 
 // Lent slots: each up to the last that is not blank, and the number of those behind.
@@ -60,7 +46,7 @@ pub fn slots<T: Slot>(out: &mut impl Write, list: &[T]) -> io::Result<()> {
         .map_or(0, |i| i + 1);
     write!(out, " |")?;
     for x in &list[..used] {
-        x.write(out)?;
+        write!(out, " {x}")?;
     }
     write!(out, " +{}", list.len() - used)
 }
@@ -79,10 +65,8 @@ pub fn number<const N: usize>(
     out: &mut impl Write,
     answer: Result<[usize; N], Refusal>,
 ) -> io::Result<()> {
-    let (number, counts) = match answer {
-        Ok(counts) => (0, counts),
-        Err(refusal) => (refusal.number(), [0; N]),
-    };
+    let number = answer_number(&answer);
+    let counts = answer.unwrap_or([0; N]);
     write!(out, "{number}")?;
     for n in &counts {
         write!(out, " {n}")?;

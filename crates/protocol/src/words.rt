@@ -95,6 +95,14 @@ impl<'a> Words<'a> {
         Some(pairs.len())
     }
 
+    // A number that a type holds.
+    fn field<T: TryFrom<usize>>(&mut self) -> Option<T>
+    where
+        <T as TryFrom<usize>>::Error: Drop,
+    {
+        T::try_from(self.number()?).ok()
+    }
+
     // An event: seven numbers joined by commas.
     pub fn event(&mut self) -> Option<Event>
         ensures { length self.new.rest.now ≤ length self.old.rest.now }
@@ -104,13 +112,13 @@ impl<'a> Words<'a> {
             separator: b',',
         };
         let event = Event {
-            kind: numbers.number_to(255)? as u8,
-            name: numbers.number_to(255)? as u8,
-            line: numbers.number_to(4294967295)? as u32,
-            column: numbers.number_to(4294967295)? as u32,
-            index: numbers.number_to(4294967295)? as u32,
-            vs: numbers.number_to(255)? as u8,
-            link: numbers.number_to(255)? as u8,
+            kind: numbers.field()?,
+            name: numbers.field()?,
+            line: numbers.field()?,
+            column: numbers.field()?,
+            index: numbers.field()?,
+            vs: numbers.field()?,
+            link: numbers.field()?,
         };
         numbers.end()?;
         Some(event)

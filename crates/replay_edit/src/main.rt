@@ -28,6 +28,7 @@ fn answer(out: &mut impl Write, line: &[u8]) -> Option<io::Result<()>> {
     let edit_count = words.number_to(51)?;
     let list_count = words.number_to(256)?;
     let pool_count = words.number_to(256)?;
+    // An array of a fixed size: the project has no heap.
     let (mut edits, mut list, mut pool) = ([0; 255], [Event::BLANK; 256], [Event::BLANK; 256]);
     let mut results = [Event::BLANK; 256];
     let edits = &mut edits[..5 * edit_count];
@@ -41,6 +42,7 @@ fn answer(out: &mut impl Write, line: &[u8]) -> Option<io::Result<()>> {
 }
 
 fn main(rt: HostRuntime) -> io::Result<()> {
+    // An array of a fixed size: the project has no heap.
     let mut text = [0u8; 65536];
     replay::parts(&mut rt.reader(), &mut io::writer(&rt), &mut text, answer)
 }

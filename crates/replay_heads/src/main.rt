@@ -16,6 +16,7 @@ fn answer(out: &mut impl Write, line: &[u8]) -> Option<io::Result<()>> {
     let lazy = words.flag()?;
     let pierced = words.flag()?;
     let lent = words.number_to(256)?;
+    // An array of a fixed size: the project has no heap.
     let mut sheet = [0u8; 4096];
     let n = words.bytes(&mut sheet)?;
     words.end()?;
@@ -26,6 +27,7 @@ fn answer(out: &mut impl Write, line: &[u8]) -> Option<io::Result<()>> {
 }
 
 fn main(rt: HostRuntime) -> io::Result<()> {
+    // An array of a fixed size: the project has no heap.
     let mut text = [0u8; 131072];
     replay::whole(&mut rt.reader(), &mut io::writer(&rt), &mut text, answer)
 }

@@ -21,6 +21,7 @@ fn change(kinds: &mut [u8], changes: &[u8]) -> Option<()> {
 fn answer(out: &mut impl Write, line: &[u8]) -> Option<io::Result<()>> {
     let mut words = Words::behind(line, b"kinds")?;
     let entries = words.number_to(300)?;
+    // An array of a fixed size: the project has no heap.
     let mut changes = [0u8; 1024];
     let n = words.bytes(&mut changes)?;
     let mut table = [0u8; 512];
@@ -31,6 +32,7 @@ fn answer(out: &mut impl Write, line: &[u8]) -> Option<io::Result<()>> {
 }
 
 fn main(rt: HostRuntime) -> io::Result<()> {
+    // An array of a fixed size: the project has no heap.
     let mut text = [0u8; 32768];
     replay::whole(&mut rt.reader(), &mut io::writer(&rt), &mut text, answer)
 }

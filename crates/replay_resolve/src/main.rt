@@ -12,6 +12,7 @@ use tokenizer::event::Event;
 fn answer(out: &mut impl Write, line: &[u8]) -> Option<io::Result<()>> {
     let mut words = Words::behind(line, b"resolve")?;
     let lent = words.number_to(256)?;
+    // An array of a fixed size: the project has no heap.
     let mut list = [Event::BLANK; 256];
     let n = words.list(&mut list, |w| w.event())?;
     words.end()?;
@@ -22,6 +23,7 @@ fn answer(out: &mut impl Write, line: &[u8]) -> Option<io::Result<()>> {
 }
 
 fn main(rt: HostRuntime) -> io::Result<()> {
+    // An array of a fixed size: the project has no heap.
     let mut text = [0u8; 65536];
     replay::parts(&mut rt.reader(), &mut io::writer(&rt), &mut text, answer)
 }

@@ -14,6 +14,7 @@ fn answer(out: &mut impl Write, line: &[u8]) -> Option<io::Result<()>> {
     let offset = words.number()?;
     let lazy = words.flag()?;
     let lent = words.number_to(256)?;
+    // An array of a fixed size: the project has no heap.
     let mut sheet = [0u8; 4096];
     let n = words.bytes(&mut sheet)?;
     words.end()?;
@@ -24,6 +25,7 @@ fn answer(out: &mut impl Write, line: &[u8]) -> Option<io::Result<()>> {
 }
 
 fn main(rt: HostRuntime) -> io::Result<()> {
+    // An array of a fixed size: the project has no heap.
     let mut text = [0u8; 131072];
     replay::whole(&mut rt.reader(), &mut io::writer(&rt), &mut text, answer)
 }

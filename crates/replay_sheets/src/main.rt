@@ -13,6 +13,7 @@ fn answer(out: &mut impl Write, line: &[u8]) -> Option<io::Result<()>> {
 }
 
 fn main(rt: HostRuntime) -> io::Result<()> {
+    // An array of a fixed size: the project has no heap.
     let mut text = [0u8; 262144];
     replay::whole(&mut rt.reader(), &mut io::writer(&rt), &mut text, answer)
 }

@@ -9,20 +9,26 @@ use borrow.Author.Tests.{ne_eqb, eqb-true, eqb-false}
 use lib.Dec.{eqb}
 use lib.ListN.{length, drop}
 use denote.Enum.Bare.{sameb}
+use Rattle.std.specs.Prelude.{Option, Some, None, is_some, unwrap_or, not, IfSome, IsSomeAnd, MatchOption}
+use Rattle.std.specs.Option.{option_or, option_eq}
 use Rattle.tokenizer.specs.contracts.kinds.Kind.{the_type}
-use Rattle.tokenizer.specs.declared.kinds.Kind.TheVariants.{Space, Colon}
+use Rattle.tokenizer.specs.declared.kinds.Kind.{Kind}
+use Rattle.tokenizer.specs.declared.kinds.Kind.TheVariants.{Other, Space, End, Pipe, Backslash, Hyphen, Colon}
 use Rattle.tokenizer.specs.declared.event.Point.{Point}
-use Rattle.tokenizer.specs.Bytes.{Reads}
+use Rattle.tokenizer.specs.Bytes.{kind_number, Reads}
 use Rattle.tokenizer.specs.Moves.{ahead_of}
 use Rattle.tokenizer.specs.Lines.{is_empty, blank, unindented}
 use Rattle.tokenizer.proofs.Ahead.{Front, ends}
 use Rattle.tokenizer.proofs.SameKinds.{same-numbers}
-use Rattle.gfm_table.specs.Heads.{untailed, last_byte, unled, untrailed, values, alignment, alignments}
-use Rattle.gfm_table.specs.Delimiters.{stretch, written}
-use Rattle.gfm_table.proofs.Stretches.{cells, cells-split, cells-last, untrailed-more, last-stretch, more-stretch}
+use Rattle.gfm_table.specs.Heads.{untailed, last_byte, untrailed, values, alignment, alignments}
+use Rattle.gfm_table.specs.Delimiters.{stretch, written, values_start}
+use Rattle.gfm_table.proofs.Stretches.{cells, cells-last, untrailed-more, last-stretch, more-stretch}
+use Rattle.gfm_table.proofs.ValuePlaces.{start_values}
 use Rattle.edit_map.specs.AlignSteps.{alignment_of, number_of}
+use Rattle.edit_map.specs.declared.infer_step.Alignment.{Alignment}
 use Rattle.sheet.specs.declared.align.Ends.{Ends}
-use Rattle.sheet.specs.Aligning.{EndNumbers, end_numbers, line_from, aligns_from, ends_over, ends_past, scanned, Marked}
+use Rattle.sheet.specs.declared.align.Mark.{Mark}
+use Rattle.sheet.specs.Aligning.{EndNumbers, end_number, end_numbers, line_from, aligns_from, ends_over, ends_past, scanned, Marked}
 use Rattle.sheet.proofs.Tests.{test}
 
 -- ## The ends of a stretch
@@ -37,7 +43,56 @@ numbered true false = refl
 numbered false true = refl
 numbered false false = refl
 
+-- a kind other than whitespace
+solid_kind : (k : Kind) → (k ≡ Space → ⊥) → eqb (kind_number k) 1 ≡ false
+solid_kind Other z = refl
+solid_kind Space z = absurd (z refl)
+solid_kind End z = refl
+solid_kind Pipe z = refl
+solid_kind Backslash z = refl
+solid_kind Hyphen z = refl
+solid_kind Colon z = refl
+
+-- whether the last is a colon
+colon-last : (l : Option Kind) → option_eq (sameb the_type) l (Some Colon) ≡ eqb (end_number l) 6
+colon-last None = refl
+colon-last (Some k) = same-numbers k Colon
+
+-- the ends d are e with one more byte of the kind k
+pub record Over (e d : Ends) (k : Kind) : Type 0 where
+  pub end : d.end ≡ e.end + 1
+  pub numbers : end_numbers d ≡ ends_over (end_numbers e) (kind_number k)
+  pub solid : d.first ≡ Some Space → ⊥
+
+module _ (e : Ends) (z : e.first ≡ Some Space → ⊥) (k : Kind) where
+  -- whitespace is passed over
+  pub space_over : k ≡ Space → Over e (record { first = e.first; last = e.last; end = e.end + 1 }) k
+  space_over s = rw s (record { end = refl; numbers = λ i. record { first = same (end_number e.first) i; last = end_number e.last; end = e.end + 1 }; solid = z })
+    where
+      same : (f : ℕ) → f ≡ cond (eqb f 1) 1 f
+      same f = test (eqb f 1) (λ t. rw t (eqb-true f 1 t)) (λ t. rw t)
+
+  -- any other kind is the last, and the first if there is none
+  pub solid_over : (k ≡ Space → ⊥) → Over e (record { first = option_or e.first (Some k); last = Some k; end = e.end + 1 }) k
+  solid_over s = record { end = refl; numbers = λ i. record { first = first e.first z i; last = last i; end = e.end + 1 }; solid = stays e.first z }
+    where
+      first : (f : Option Kind) → (f ≡ Some Space → ⊥) → end_number (option_or f (Some k)) ≡ cond (eqb (end_number f) 1) (kind_number k) (end_number f)
+      first None x = refl
+      first (Some j) x = rw (solid_kind j (λ y. x (ap Some y)))
+
+      last : kind_number k ≡ cond (eqb (kind_number k) 1) (end_number e.last) (kind_number k)
+      last = rw (solid_kind k s)
+
+      stays : (f : Option Kind) → (f ≡ Some Space → ⊥) → option_or f (Some k) ≡ Some Space → ⊥
+      stays None x y = s cc
+      stays (Some j) x y = x y
+
 module _ (kind : ℕ → ℕ) where
+  -- an empty stretch has the number of no markers
+  none_written : (w : List ℕ) → false ≡ not (is_empty w) → number_of Alignment.None ≡ alignment kind w
+  none_written [] h = refl
+  none_written (b ∷ w) h = absurd (false≢true h)
+
   unfoldable first_of : ℕ → List ℕ → ℕ
   first_of f [] = f
   first_of f (b ∷ t) = first_of (cond (eqb f 1) (kind b) f) t
@@ -115,14 +170,53 @@ module _ (kind : ℕ → ℕ) where
     told-align [] e = rw (last-blank 1 (stretch kind u) (ap is_empty e))
     told-align (b ∷ x) e = rw (first-solid (stretch kind u) b x e, last-led 1 (stretch kind u) b x e)
 
-    marked_numbers : (i : ℕ) (e : EndNumbers) → e ≡ scanned kind i u → Marked kind u i (record { align = alignment_of (eqb e.first 6) (eqb e.last 6); empty = eqb e.first 1; end = e.end })
-    marked_numbers i e h =
-        rw (h ∙ ends-past 1 1 i (stretch kind u), first_kind (stretch kind u))
-        (record { end = refl; empty = told-empty front refl; align = numbered _ _ ∙ told-align front refl })
+    module _ (i : ℕ) (e : EndNumbers) (h : e ≡ scanned kind i u) where
+      told : e ≡ record { first = head_kind front; last = last_of 1 (stretch kind u); end = i + length (stretch kind u) }
+      told = h ∙ ends-past 1 1 i (stretch kind u) ∙ ap {B = EndNumbers} (λ n. record { first = n; last = last_of 1 (stretch kind u); end = i + length (stretch kind u) }) (first_kind (stretch kind u))
+
+      marked-end : e.end ≡ i + length (stretch kind u)
+      marked-end = ap (λ (n : EndNumbers). n.end) told
+
+      marked-empty : eqb e.first 1 ≡ is_empty (written kind u)
+      marked-empty = ap (λ (n : EndNumbers). eqb n.first 1) told ∙ told-empty front refl
+
+      marked-align : number_of (alignment_of (eqb e.first 6) (eqb e.last 6)) ≡ alignment kind (written kind u)
+      marked-align = ap (λ (n : EndNumbers). number_of (alignment_of (eqb n.first 6) (eqb n.last 6))) told ∙ numbered _ _ ∙ told-align front refl
 
     -- and by the tests of kinds
-    pub marked_by : (i : ℕ) (e : Ends) → end_numbers e ≡ scanned kind i u → Marked kind u i (record { align = alignment_of (sameb the_type e.first Colon) (sameb the_type e.last Colon); empty = sameb the_type e.first Space; end = e.end })
-    marked_by i e h = rw (same-numbers e.first Colon, same-numbers e.last Colon, same-numbers e.first Space) (marked_numbers i (end_numbers e) h)
+    pub marked_by : (i : ℕ) (e : Ends) (m : Mark) → end_numbers e ≡ scanned kind i u → (e.first ≡ Some Space → ⊥) → m.end ≡ e.end
+        → MatchOption e.first (m.align ≡ None) (λ k. IsSomeAnd m.align (λ a. a ≡ alignment_of (sameb the_type k Colon) (option_eq (sameb the_type) e.last (Some Colon)))) → Marked kind u i m
+    marked_by i e m h z d x = record { end = d ∙ marked-end i (end_numbers e) h; empty = empty e.first m.align z x (marked-empty i (end_numbers e) h); align = align e.first m.align x (marked-align i (end_numbers e) h) }
+      where
+        empty : (f : Option Kind) (a : Option Alignment) → (f ≡ Some Space → ⊥) → MatchOption f (a ≡ None) (λ k. IsSomeAnd a (λ b. b ≡ alignment_of (sameb the_type k Colon) (option_eq (sameb the_type) e.last (Some Colon)))) → eqb (end_number f) 1 ≡ is_empty (written kind u) → is_some a ≡ not (is_empty (written kind u))
+        empty None None z x q = ap not q
+        empty None (Some a) z x q = absurd (let y : Some a ≡ None = x in cc)
+        empty (Some k) None z x q = absurd x
+        empty (Some k) (Some a) z x q = ap not (sym (solid_kind k (λ y. z (ap Some y))) ∙ q)
+
+        align : (f : Option Kind) (a : Option Alignment) → MatchOption f (a ≡ None) (λ k. IsSomeAnd a (λ b. b ≡ alignment_of (sameb the_type k Colon) (option_eq (sameb the_type) e.last (Some Colon)))) → number_of (alignment_of (eqb (end_number f) 6) (eqb (end_number e.last) 6)) ≡ alignment kind (written kind u) → IfSome a (λ b. number_of b ≡ alignment kind (written kind u))
+        align f None x q = tt
+        align None (Some a) x q = absurd (let y : Some a ≡ None = x in cc)
+        align (Some k) (Some a) x q = ap number_of (x ∙ ap (λ (t : Bool). alignment_of t (option_eq (sameb the_type) e.last (Some Colon))) (same-numbers k Colon) ∙ ap (alignment_of (eqb (kind_number k) 6)) (colon-last e.last)) ∙ q
+
+    module _ (i : ℕ) (m : Mark) (h : Marked kind u i m) where
+      -- a stretch with no alignment is empty
+      pub mark_empty : {t : Bool} → is_some m.align ≡ not t → is_empty (written kind u) ≡ t
+      mark_empty {t} n = go (is_empty (written kind u)) t (sym h.empty ∙ n)
+        where
+          go : (a b : Bool) → not a ≡ not b → a ≡ b
+          go true true e = refl
+          go true false e = sym e
+          go false true e = sym e
+          go false false e = refl
+
+      -- it is written as one of no markers
+      pub mark_number : number_of (unwrap_or m.align Alignment.None) ≡ alignment kind (written kind u)
+      mark_number = go m.align h.empty h.align
+        where
+          go : (a : Option Alignment) → is_some a ≡ not (is_empty (written kind u)) → IfSome a (λ b. number_of b ≡ alignment kind (written kind u)) → number_of (unwrap_or a Alignment.None) ≡ alignment kind (written kind u)
+          go (Some a) e x = x
+          go None e x = none_written (written kind u) e
 
 -- ## Scanning
 
@@ -156,9 +250,6 @@ module _ {kind : ℕ → ℕ} (ok : Reads kind) (s : List ℕ) (i : ℕ) where
     unfolding alignments
     aligns_more = ap (λ (c : List (List ℕ)). alignments kind (untrailed c)) (more-stretch ok s (dot i) 0 f) ∙ ap (alignments kind) (untrailed-more ok (written kind here) (line_from s (end + 1)))
 
-    pub values-led : is_empty (written kind here) ≡ true → aligns_from kind s (end + 1) ≡ alignments kind (values kind here)
-    values-led e = sym (ap (λ (c : List (List ℕ)). alignments kind (untrailed (unled c))) (more-stretch ok s (dot i) 0 f ∙ ap (λ (c : List (List ℕ)). written kind here ∷ c) (cells-split ok (line_from s (end + 1)))) ∙ rw e (ap (λ (c : List (List ℕ)). alignments kind (untrailed c)) (sym (cells-split ok (line_from s (end + 1))))))
-
   module _ (z : ahead_of kind (drop end s) ≡ 3 → ⊥) where
     last-cell : (cells kind) here ≡ written kind here ∷ []
     last-cell = cells-last ok here (last-stretch ok s (dot i) 0 z)
@@ -171,16 +262,6 @@ module _ {kind : ℕ → ℕ} (ok : Reads kind) (s : List ℕ) (i : ℕ) where
     unfolding alignments untrailed
     aligns_none e = ap (λ (c : List (List ℕ)). alignments kind (untrailed c)) last-cell ∙ rw e
 
-    pub values_alone : (aligns_from kind) s i ≡ alignments kind (values kind here)
-    values_alone =
-        ap (λ (c : List (List ℕ)). alignments kind (untrailed c)) last-cell
-        ∙ sym (ap (λ (c : List (List ℕ)). alignments kind (untrailed (unled c))) last-cell)
-
-  unled-solid : (c : List ℕ) (cs : List (List ℕ)) → is_empty c ≡ false → unled (c ∷ cs) ≡ c ∷ cs
-  unled-solid c [] e = refl
-  unled-solid c (d ∷ cs) e = rw e
-
-  pub values-plain : is_empty (written kind here) ≡ false → aligns_from kind s i ≡ alignments kind (values kind here)
-  values-plain e =
-      ap (λ (c : List (List ℕ)). alignments kind (untrailed c))
-      (cells-split ok here ∙ sym (unled-solid (written kind here) _ e) ∙ ap unled (sym (cells-split ok here)))
+  -- the values of a line are read from their start on
+  pub aligns_start : (aligns_from kind) s (values_start kind i here) ≡ alignments kind (values kind here)
+  aligns_start = ap (alignments kind) (start_values ok s i)

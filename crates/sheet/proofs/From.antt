@@ -8,17 +8,17 @@ use native.Mathlib.Omega.{arith}
 use borrow.Author.Tests.{eq-eqb, ne_eqb, eqb-true, eqb-false, ltb-true}
 use lib.Dec.{eqb, ltb}
 use lib.ListN.{length, drop}
-use Rattle.std.specs.Prelude.{Some, None}
+use Rattle.std.specs.Prelude.{Option, Some, None}
 use Rattle.tokenizer.specs.declared.event.Point.{Point}
 use Rattle.tokenizer.specs.declared.event.LineStart.{LineStart}
 use Rattle.tokenizer.specs.Bytes.{Reads}
-use Rattle.tokenizer.specs.Lines.{line_body, end_at}
+use Rattle.tokenizer.specs.Lines.{line_body, end_at, line_end}
 use Rattle.tokenizer.specs.Points.{start_of}
 use Rattle.tokenizer.specs.Places.{Placed, lines_from, lines_past, first_point}
 use Rattle.tokenizer.specs.Moves.{rest_of, line_at, after, Inside}
 use Rattle.tokenizer.proofs.Starts.{first-within}
 use Rattle.tokenizer.proofs.Places.{lines-from}
-use Rattle.tokenizer.proofs.Ends.{end-past, body-inside, after-inside}
+use Rattle.tokenizer.proofs.Ends.{end_read, none_read, end-past, body-inside, after-inside}
 use Rattle.gfm_table.specs.Rows.{row_pieces}
 use Rattle.gfm_table.specs.Heads.{solid, permitted, lone_divider, marked, values, all_values, is_delimiter_row, head_cells}
 use Rattle.gfm_table.specs.Delimiters.{value_count, positive}
@@ -50,6 +50,12 @@ module _ (s : List ℕ) (p : Point) where
   pub after_line : ((line_at s p).end ≡ 0 → ⊥) → Inside s p → AtLine s (after s p)
   after_line z h = record { inside = after-inside s p z h; first = refl }
 
+-- the line of p has an end, and the next one starts at q
+pub record Read (s : List ℕ) (p q : Point) : Type 0 where
+  pub ended : (line_at s p).end ≡ 0 → ⊥
+  pub next : q ≡ after s p
+  pub at : AtLine s q
+
 -- ## A line that is read: e is where its bytes end, n how long its line end is
 
 module _ (s : List ℕ) (l i e n : ℕ) (f : e ≡ i + length (line_body (drop i s))) (g : n ≡ end_at (drop e s)) where
@@ -61,7 +67,7 @@ module _ (s : List ℕ) (l i e n : ℕ) (f : e ≡ i + length (line_body (drop i
   read-end = g ∙ ap (λ (j : ℕ). end_at (drop j s)) f ∙ end-past s from
 
   -- the next line starts behind it
-  pub read_next : point_in (l + 1) (e + n) 1 ≡ after s from
+  read_next : point_in (l + 1) (e + n) 1 ≡ after s from
   read_next = rw (read-end, f)
 
   module _ (h : AtLine s from) where
@@ -69,8 +75,17 @@ module _ (s : List ℕ) (l i e n : ℕ) (f : e ≡ i + length (line_body (drop i
     pub read-stop : e ≤ length s
     read-stop = rw f (body-inside s from h.inside).within
 
-    pub read-line : (n ≡ 0 → ⊥) → AtLine s (point_in (l + 1) (e + n) 1)
-    read-line z = rw read_next (after_line s from (λ w. z (read-end ∙ w)) h.inside)
+    -- it has an end, behind which the next line starts
+    pub read : (n ≡ 0 → ⊥) → Read s from (point_in (l + 1) (e + n) 1)
+    read z = let e = λ (w : (line_at s from).end ≡ 0). z (read-end ∙ w) in record { ended = e; next = read_next; at = rw read_next (after_line s from e h.inside) }
+
+-- the same where the line end is told as an option
+module _ (s : List ℕ) (l i e : ℕ) (o : Option ℕ) (f : e ≡ i + length (line_body (drop i s))) (g : o ≡ line_end (drop e s)) where
+  pub read_none : o ≡ None → (line_at s (point_in l i 1)).end ≡ 0
+  read_none h = sym (read-end s l i e 0 f (sym (none_read (drop e s) o g h)))
+
+  pub read_some : (n : ℕ) → AtLine s (point_in l i 1) → o ≡ Some n → Read s (point_in l i 1) (point_in (l + 1) (e + n) 1)
+  read_some n h k = let d = end_read (drop e s) o n g k in read s l i e n f d.0 h d.1
 
 -- ## Heads
 
@@ -154,6 +169,14 @@ module _ {kind : ℕ → ℕ} (ok : Reads kind) (s : List ℕ) (on : Bool) (i d 
   -- the next line has no values
   pub columns_zero : 0 ≡ value_count kind counted → 0 ≡ columns_of kind s on i d
   columns_zero h = rw (row-counted ok counted on, ← h, and-false (permitted kind on counted))
+
+  -- the head line's indent is not permitted
+  pub columns-head : permitted kind on (line_body (drop i s)) ≡ false → 0 ≡ columns_of kind s on i d
+  columns-head h = rw (h, and-false (is_delimiter_row kind on counted))
+
+  -- the head line is blank or a remark
+  pub columns-closed : closes kind (line_body (drop i s)) ≡ true → 0 ≡ columns_of kind s on i d
+  columns-closed h = rw (h, and-false (permitted kind on (line_body (drop i s))), and-false (is_delimiter_row kind on counted))
 
 -- no number is given for 0 alone
 pub not_given : (n : ℕ) → None ≡ positive n → n ≡ 0

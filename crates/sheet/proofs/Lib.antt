@@ -2,10 +2,12 @@
 pub mod Tests
 pub mod Closing
 pub mod From
+pub mod Asked
 pub mod Stops
 pub mod Bounds
 pub mod Bodies
 pub mod LastRow
+pub mod NextRow
 pub mod Placing
 pub mod Aligning
 pub mod Slots

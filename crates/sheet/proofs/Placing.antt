@@ -2,21 +2,17 @@
 -- Assumes nothing.
 use Prim.Native.Nat.{ℕ, ◌+◌, ◌*◌, ◌≤◌, ◌<◌}
 use mathlib.Core.Path.{◌≡◌, ap, sym, ◌∙◌}
-use mathlib.Core.Bool.{false}
 use mathlib.Core.List.{List, [], ◌∷◌, ◌++◌, append_assoc}
 use native.Mathlib.Omega.{arith}
-use lib.Dec.{eqb}
-use lib.ListN.{length, drop, set, length-append}
-use borrow.Author.Tests.{eqb-true, eqb-false}
+use lib.ListN.{length, set, length-append}
 use Rattle.tokenizer.specs.declared.event.Point.{Point}
 use Rattle.tokenizer.specs.declared.event.Event.{Event}
-use Rattle.tokenizer.specs.Points.{past, next_line}
-use Rattle.tokenizer.specs.Events.{LineEnding, GfmTableHead, GfmTableRow, enter, leave, point_of}
+use Rattle.tokenizer.specs.Points.{past}
+use Rattle.tokenizer.specs.Events.{LineEnding, GfmTableHead, enter, leave}
 use Rattle.tokenizer.specs.Slots.{wrote}
-use Rattle.tokenizer.specs.Lines.{Line, lines}
-use Rattle.tokenizer.specs.Places.{Placed, placed, end_of, lines_past}
+use Rattle.tokenizer.specs.Places.{end_of}
 use Rattle.tokenizer.specs.Moves.{rest_of, line_at, after, Inside}
-use Rattle.tokenizer.proofs.Ends.{body-inside, stop-rest, after-inside}
+use Rattle.tokenizer.proofs.Ends.{body-inside, stop-rest}
 use Rattle.tokenizer.proofs.Writing.{wrote_none, wrote_one, wrote-more, wrote-append}
 use Rattle.gfm_table.specs.declared.stream.Part.{Part}
 use Rattle.gfm_table.specs.declared.stream.Part.TheVariants.{Head, Delimiter, Body}
@@ -24,17 +20,14 @@ use Rattle.gfm_table.specs.Rows.{passed, both, all_both}
 use Rattle.gfm_table.specs.Stream.{name_of, pieces_of}
 use Rattle.gfm_table.specs.Places.{row_wrote}
 use Rattle.gfm_table.proofs.Plans.{row-length}
-use Rattle.edit_map.specs.Tables.{BodyRow, raw_body, raw_table, last_exit}
+use Rattle.edit_map.specs.Tables.{BodyRow, raw_body, raw_table}
 use Rattle.sheet.specs.declared.tables.Written.{Written}
-use Rattle.sheet.specs.Walk.{closes, line_end, body_rows}
+use Rattle.sheet.specs.Walk.{line_end}
 use Rattle.sheet.specs.From.{here}
 use Rattle.sheet.specs.Spans.{last_point, last_stop}
-use Rattle.sheet.specs.Placing.{point_at, written_at, AtEnd, Few, row_events, next_events, heads_events, rows_after, table_at}
-use Rattle.sheet.proofs.Tests.{test}
-use Rattle.sheet.proofs.Stops.{rows_same, stop-stop, stop-after, stop-past, stop-line, stop-here}
-use Rattle.sheet.proofs.From.{past-last}
-use Rattle.sheet.proofs.Bodies.{next-lines}
-use Rattle.sheet.proofs.LastRow.{last_row}
+use Rattle.sheet.specs.Placing.{point_at, written_at, AtEnd, Few, break_events, row_events, next_events, heads_events, rows_after, table_at}
+use Rattle.sheet.proofs.Stops.{stop-after, stop-line, stop-here}
+use Rattle.sheet.proofs.NextRow.{stop-rows, stop_last_point, row_next, none_next, last_here}
 
 -- ## Events between two others
 
@@ -62,6 +55,13 @@ module _ (s : List ℕ) where
   pub at-end : (p : Point) (k : ℕ) → Inside s p → AtEnd s (written_at (end_of (here s p)) k)
   at-end p k h = record { inside = body-inside s p h; rest = stop-rest s p }
 
+  -- the two events of a line's end
+  pub break-made : (w : Written) → AtEnd s w → (zs : List Event) → set (set zs w.slot (enter LineEnding (point_at w))) (w.slot + 1) (leave LineEnding (after s (point_at w))) ≡ wrote w.slot (break_events s (point_at w)) zs
+  break-made w h zs =
+      let p = point_at w in
+      let x = leave LineEnding (after s p) in
+      sym ((λ i. wrote w.slot (enter LineEnding (stop-here s p h.rest h.inside i) ∷ x ∷ []) zs) ∙ wrote-more w.slot (enter LineEnding p) (x ∷ []) zs ∙ wrote_one (w.slot + 1) x (set zs w.slot (enter LineEnding p)))
+
 module _ (kind : ℕ → ℕ) (s : List ℕ) where
   -- ## A row
 
@@ -88,18 +88,15 @@ module _ (kind : ℕ → ℕ) (s : List ℕ) where
 
   -- ## A line end and the next row
 
-  module _ (t : Part) (w : Written) (h : AtEnd s w) where
+  module _ (t : Part) (w : Written) where
     abbrev row : List Event
     row = row_events kind s t (after s (point_at w))
 
     pub next_slot : w.slot + 2 + length row ≡ w.slot + length (next_events kind s t (point_at w))
     next_slot = omega arith
 
-    pub next-made : (zs : List Event)
-        → wrote (w.slot + 2) row (set (set zs w.slot (enter LineEnding (point_at w))) (w.slot + 1) (leave LineEnding (after s (point_at w)))) ≡ wrote w.slot (next_events kind s t (point_at w)) zs
-    next-made zs =
-        let x = leave LineEnding (after s (point_at w)) in
-        sym (ap (λ (p : Point). wrote w.slot (enter LineEnding p ∷ x ∷ row) zs) (stop-here s (point_at w) h.rest h.inside) ∙ wrote_pair w.slot (enter LineEnding (point_at w)) x row zs)
+    pub next-made : (zs : List Event) → wrote (w.slot + 2) row (wrote w.slot (break_events s (point_at w)) zs) ≡ wrote w.slot (next_events kind s t (point_at w)) zs
+    next-made zs = sym (wrote-append w.slot (break_events s (point_at w)) row zs)
 
     pub next-few : Few w.slot (next_events kind s t (point_at w)) → (w.slot < 1000000000000) × Few (w.slot + 2) row
     next-few f = (omega arith, omega arith)
@@ -143,57 +140,8 @@ module _ (kind : ℕ → ℕ) (s : List ℕ) where
 
   -- ## A body
 
-  abbrev rows_at : Point → List BodyRow
-  rows_at p = body_rows kind (here s p) (lines_past s p)
-
-  -- the last exit does not lie before the point where the rows begin
-  last_least : (e : Event) (l : Placed) (q : Point) (ls : List Line) → e.index ≤ q.index → e.index ≤ (last_exit e (body_rows kind l (placed q ls))).index
-  unfolding last_exit body_rows placed
-  last_least e l q [] h = omega arith
-  last_least e l q (m ∷ ms) h =
-      test (closes kind m.body) (λ b. rw b (omega arith))
-      (λ b. rw b
-      (omega (
-        arith,
-        h,
-        last_least (leave GfmTableRow (past q m.body)) (record { at = q; line = m }) (next_line (past q m.body) m.end) ms (omega arith),
-      )))
-
-  pub past-onward : (p : Point) (e : Event) (l : Placed) → e.index ≤ (end_of (here s p)).index → e.index ≤ (last_exit e (body_rows kind l (lines_past s p))).index
-  unfolding last_exit body_rows
-  past-onward p e l h =
-      test (eqb (line_at s p).end 0) (λ b. rw b (omega arith))
-      (λ b. rw b (last_least e l (after s p) (lines (drop (after s p).index s)) (omega (arith, h))))
-
-  stop_least : (p : Point) → (end_of (here s p)).index ≤ last_stop kind s p
-  stop_least p = past-onward p (leave GfmTableHead (end_of (here s p))) (here s p) (omega arith)
-
-  -- the rows after the end of a line are those after the line
-  pub stop-rows : (p : Point) → rows_at (end_of (here s p)) ≡ rows_at p
-  stop-rows p = ap (body_rows kind (here s (end_of (here s p)))) (stop-past s p) ∙ rows_same kind (here s (end_of (here s p))) (here s p) (lines_past s p) (stop-line s p)
-
   pub stop_rows_after : (p : Point) → rows_after kind s (end_of (here s p)) ≡ rows_after kind s p
-  stop_rows_after p = ap raw_body (stop-rows p)
-
-  pub stop_last_point : (p : Point) → last_point kind s (end_of (here s p)) ≡ last_point kind s p
-  stop_last_point p = λ i. point_of (last_exit (leave GfmTableHead (stop-stop s p i)) (stop-rows p i))
-
-  -- whether a row is next
-  data Next (p : Point) : Type 0 where
-    none : rows_at p ≡ [] → Next p
-    some : ((line_at s p).end ≡ 0 → ⊥) → closes kind (rest_of s (after s p)) ≡ false → Next p
-
-  next_of : (p : Point) → Next p
-  unfolding body_rows
-  next_of p =
-      test (eqb (line_at s p).end 0) (λ e. none (ap (body_rows kind (here s p)) (past-last s p (eqb-true (line_at s p).end 0 e))))
-      (λ e. let z = eqb-false (line_at s p).end 0 e in
-      test (closes kind (rest_of s (after s p))) (λ b. none (ap (body_rows kind (here s p)) (next-lines kind s p z) ∙ rw b)) (λ b. some z b))
-
-  module _ (p : Point) (z : (line_at s p).end ≡ 0 → ⊥) (b : closes kind (rest_of s (after s p)) ≡ false) where
-    next-rows : (rows_after kind) s p ≡ next_events kind s Body p ++ rows_after kind s (after s p)
-    unfolding body_rows raw_body
-    next-rows = ap (λ (ls : List Placed). raw_body (body_rows kind (here s p) ls)) (next-lines kind s p z) ∙ rw b
+  stop_rows_after p = ap raw_body (stop-rows kind s p)
 
   -- where the rows end, and what all slots are then
   abbrev pub makes : Written → List Event → Written × List Event
@@ -216,44 +164,33 @@ module _ (kind : ℕ → ℕ) (s : List ℕ) where
       pub more : (zs : List Event) → makes a zs ≡ makes (onward a) (wrote a.slot (next_events kind s Body (point_at a)) zs)
       pub long : a.at < (onward a).at
 
-    goes_row : (a : Written) → Good a → ((line_at s (point_at a)).end ≡ 0 → ⊥) → closes kind (rest_of s (after s (point_at a))) ≡ false → Goes a
-    goes_row a h z b =
+    pub goes : (a : Written) → Good a → a.at < stop → Goes a
+    unfolding raw_body
+    goes a h l =
+        let w = row_next kind s stop a h.0 h.1 l in
         let p = point_at a in
         let q = after s p in
         let n = next_events kind s Body p in
-        let r = next-rows p z b ∙ ap (λ (es : List Event). n ++ es) (sym (stop_rows_after q)) in
-        let l = last_row kind s p z b ∙ sym (stop_last_point q) in
-        let m : a.slot + length (rows_after kind s p) ≡ a.slot + length n + length (rows_after kind s (end_of (here s q))) = omega (arith, ap {B = ℕ} length r, length-append n (rows_after kind s (end_of (here s q)))) in
+        let rest = rows_after kind s (end_of (here s q)) in
+        let r : (rows_after kind) s p ≡ n ++ rest = ap raw_body w.rows in
+        let m : a.slot + length (rows_after kind s p) ≡ a.slot + length n + length rest = omega (arith, ap {B = ℕ} length r, length-append n rest) in
         record {
-          ended = z;
+          ended = w.ended;
           few = omega (arith, m, h.2);
-          good = (at-end s q _ (after-inside s p z h.0.inside), h.1 ∙ ap (λ (x : Point). x.index) l, omega (arith, m, h.2));
-          more = λ zs. let w = ap (λ (es : List Event). wrote a.slot es zs) r ∙ wrote-append a.slot n (rows_after kind s (end_of (here s q))) zs in λ i. (written_at (l i) (m i), w i);
-          long = omega (arith, z);
+          good = (at-end s q _ w.inside, h.1 ∙ ap (λ (x : Point). x.index) w.last, omega (arith, m, h.2));
+          more = λ zs. let e = ap (λ (es : List Event). wrote a.slot es zs) r ∙ wrote-append a.slot n rest zs in λ i. (written_at (w.last i) (m i), e i);
+          long = w.long;
         }
-
-    pub goes : (a : Written) → Good a → a.at < stop → Goes a
-    unfolding last_exit
-    goes a h l = go (next_of (point_at a))
-      where
-        go : Next (point_at a) → Goes a
-        go (none e) =
-            absurd (let q = ap (λ (bs : List BodyRow). (last_exit (leave GfmTableHead (end_of (here s (point_at a)))) bs).index) e in let r = ap {B = ℕ} length h.0.rest in omega (arith, q, r, l, h.1))
-        go (some z b) = goes_row a h z b
 
     -- none is left
     pub stops : (a : Written) (zs : List Event) → Good a → stop ≤ a.at → makes a zs ≡ (a, zs)
-    unfolding last_exit raw_body
-    stops a zs h l = go (next_of (point_at a))
-      where
-        go : Next (point_at a) → makes a zs ≡ (a, zs)
-        go (none e) =
-            let p = point_at a in
-            let f = stop-here s p h.0.rest h.0.inside in
-            let n : a.slot + 0 ≡ a.slot = omega arith in
-            ap (λ (bs : List BodyRow). (written_at (point_of (last_exit (leave GfmTableHead (end_of (here s p))) bs)) (a.slot + length (raw_body bs)), wrote a.slot (raw_body bs) zs)) e
-            ∙ (λ i. (written_at (f i) (n i), wrote_none a.slot zs i))
-        go (some z b) = absurd (omega (arith, z, l, h.1, ap (λ (x : Point). x.index) (last_row kind s (point_at a) z b), stop_least (after s (point_at a))))
+    unfolding raw_body
+    stops a zs h l =
+        let e = none_next kind s stop a h.0 h.1 l in
+        let f = last_here kind s a h.0 e in
+        let n : a.slot + 0 ≡ a.slot = omega arith in
+        ap (λ (bs : List BodyRow). (written_at (last_point kind s (point_at a)) (a.slot + length (raw_body bs)), wrote a.slot (raw_body bs) zs)) e
+        ∙ (λ i. (written_at (f i) (n i), wrote_none a.slot zs i))
 
   -- ## A table
 
@@ -273,7 +210,7 @@ module _ (kind : ℕ → ℕ) (s : List ℕ) where
     table-length = omega (arith, ap {B = ℕ} length table_parts, length-append (heads_events kind s p) (rows_after kind s bottom))
 
     pub table-end : written_at (last_point kind s bottom) (k + length (heads_events kind s p) + length (rows_after kind s bottom)) ≡ written_at (last_point kind s (after s p)) (k + length (raw_table (table_at kind s p)))
-    table-end = λ i. written_at (stop_last_point (after s p) i) (table-length i)
+    table-end = λ i. written_at (stop_last_point kind s (after s p) i) (table-length i)
 
     pub table-made : (zs : List Event) → wrote (k + length (heads_events kind s p)) (rows_after kind s bottom) (wrote k (heads_events kind s p) zs) ≡ wrote k (raw_table (table_at kind s p)) zs
     table-made zs = sym (ap (λ (es : List Event). wrote k es zs) table_parts ∙ wrote-append k (heads_events kind s p) (rows_after kind s bottom) zs)
@@ -282,6 +219,6 @@ module _ (kind : ℕ → ℕ) (s : List ℕ) where
     table-few f = let e = table-length in (omega arith, omega arith)
 
     pub table-stop : (last_stop kind) s bottom ≡ last_stop kind s (after s p)
-    table-stop = ap (λ (x : Point). x.index) (stop_last_point (after s p))
+    table-stop = ap (λ (x : Point). x.index) (stop_last_point kind s (after s p))
 
 -- ## All tables

@@ -3,18 +3,17 @@
 use Prim.Native.Nat.{ℕ, ◌+◌, ◌≤◌, ◌<◌}
 use mathlib.Core.Path.{◌≡◌, ap, sym, ◌∙◌}
 use mathlib.Core.List.{List, [], ◌∷◌, ◌++◌}
-use mathlib.Core.Bool.{Bool}
 use native.Mathlib.Omega.{arith}
 use lib.ListN.{length, set, length-append}
 use Rattle.tokenizer.specs.declared.event.Point.{Point}
 use Rattle.tokenizer.specs.declared.event.Event.{Event}
 use Rattle.tokenizer.specs.Points.{past}
-use Rattle.tokenizer.specs.Events.{LineEnding, GfmTable, GfmTableBody, GfmTableHead, enter, leave}
+use Rattle.tokenizer.specs.Events.{GfmTable, GfmTableHead, enter, leave}
 use Rattle.tokenizer.specs.Places.{end_of}
-use Rattle.tokenizer.specs.Slots.{wrote, past_if, event_if}
+use Rattle.tokenizer.specs.Slots.{wrote}
 use Rattle.tokenizer.specs.Moves.{rest_of, line_at, after, Inside}
 use Rattle.tokenizer.proofs.Ends.{stop-rest, body-inside, after-inside}
-use Rattle.tokenizer.proofs.Writing.{wrote_one, wrote-more, wrote-append, past-if}
+use Rattle.tokenizer.proofs.Writing.{wrote_one, wrote-more, wrote-append}
 use Rattle.gfm_table.specs.declared.stream.Part.{Part}
 use Rattle.gfm_table.specs.declared.stream.Part.TheVariants.{Delimiter, Body}
 use Rattle.gfm_table.specs.Rows.{both}
@@ -22,10 +21,10 @@ use Rattle.gfm_table.specs.Stream.{name_of}
 use Rattle.edit_map.specs.CellRows.{cells_at, cells_wrote}
 use Rattle.sheet.specs.From.{here, AtLine}
 use Rattle.sheet.specs.declared.tables.Written.{Written}
-use Rattle.sheet.specs.Placing.{point_at, written_at, AtEnd, Few}
-use Rattle.sheet.specs.Results.{row_result, break_result, head_result, end_result}
+use Rattle.sheet.specs.Placing.{written_at, AtEnd, Few, break_events}
+use Rattle.sheet.specs.Results.{row_result, head_result}
 use Rattle.sheet.proofs.Placing.{wrote_pair}
-use Rattle.sheet.proofs.Stops.{stop-after, stop-line, stop-here}
+use Rattle.sheet.proofs.Stops.{stop-after, stop-line}
 
 -- ## Rows
 
@@ -47,10 +46,6 @@ module _ (kind : ℕ → ℕ) (s : List ℕ) (t : Part) (p : Point) (k : ℕ) wh
       × (set (cells_wrote kind s t p (k + 1) (set zs k (enter (name_of t) p))) (k + 1 + length (cells_at kind s t p)) (leave (name_of t) (past p (rest_of s p))) ≡ wrote k (row_result kind s t p) zs)
   row_said zs =
       (ap {B = Written} (written_at (past p (rest_of s p))) row_slots_lem, framed k (enter (name_of t) p) (leave (name_of t) (past p (rest_of s p))) (cells_at kind s t p) zs)
-
--- two events
-two_said : (k : ℕ) (a b : Event) (zs : List Event) → set (set zs k a) (k + 1) b ≡ wrote k (a ∷ b ∷ []) zs
-two_said k a b zs = sym (wrote-more k a (b ∷ []) zs ∙ wrote_one (k + 1) b (set zs k a))
 
 -- ## Heads
 
@@ -77,7 +72,7 @@ module _ (kind : ℕ → ℕ) (s : List ℕ) (p : Point) where
   abbrev stop : Point
   stop = past p (rest_of s p)
 
-  head-is : enter GfmTable p ∷ enter GfmTableHead p ∷ (row_result kind s Body p ++ (break_result s stop ++ (row_result kind s Delimiter (after s stop) ++ leave GfmTableHead (end_of (here s (after s stop))) ∷ []))) ≡ head_result kind s p
+  head-is : enter GfmTable p ∷ enter GfmTableHead p ∷ (row_result kind s Body p ++ (break_events s stop ++ (row_result kind s Delimiter (after s stop) ++ leave GfmTableHead (end_of (here s (after s stop))) ∷ []))) ≡ head_result kind s p
   head-is = λ i. enter GfmTable p ∷ enter GfmTableHead p ∷ (row_result kind s Body p ++ (both (stop-line s p i) ++ (row_result kind s Delimiter (stop-after s p i) ++ leave GfmTableHead (end_of (here s (stop-after s p i))) ∷ [])))
 
   module _ (k : ℕ) where
@@ -89,15 +84,15 @@ module _ (kind : ℕ → ℕ) (s : List ℕ) (p : Point) where
 
     head_slots_lem : n₂ + 1 ≡ k + length (head_result kind s p)
     head_slots_lem =
-        headed_length k (enter GfmTable p) (enter GfmTableHead p) (leave GfmTableHead (end_of (here s (after s stop)))) (row_result kind s Body p) (break_result s stop) (row_result kind s Delimiter (after s stop))
+        headed_length k (enter GfmTable p) (enter GfmTableHead p) (leave GfmTableHead (end_of (here s (after s stop)))) (row_result kind s Body p) (break_events s stop) (row_result kind s Delimiter (after s stop))
         ∙ ap (λ (es : List Event). k + length es) head-is
 
     pub head_said : (zs : List Event)
         → (written_at (end_of (here s (after s stop))) (n₂ + 1) ≡ written_at (end_of (here s (after s p))) (k + length (head_result kind s p)))
-        × (set (wrote (n₁ + 2) (row_result kind s Delimiter (after s stop)) (wrote n₁ (break_result s stop) (wrote (k + 2) (row_result kind s Body p) (set (set zs k (enter GfmTable p)) (k + 1) (enter GfmTableHead p))))) n₂ (leave GfmTableHead (end_of (here s (after s stop)))) ≡ wrote k (head_result kind s p) zs)
+        × (set (wrote (n₁ + 2) (row_result kind s Delimiter (after s stop)) (wrote n₁ (break_events s stop) (wrote (k + 2) (row_result kind s Body p) (set (set zs k (enter GfmTable p)) (k + 1) (enter GfmTableHead p))))) n₂ (leave GfmTableHead (end_of (here s (after s stop)))) ≡ wrote k (head_result kind s p) zs)
     head_said zs = (
       (λ i. written_at (end_of (here s (stop-after s p i))) (head_slots_lem i)),
-      headed k (enter GfmTable p) (enter GfmTableHead p) (leave GfmTableHead (end_of (here s (after s stop)))) (row_result kind s Body p) (break_result s stop) (row_result kind s Delimiter (after s stop)) zs
+      headed k (enter GfmTable p) (enter GfmTableHead p) (leave GfmTableHead (end_of (here s (after s stop)))) (row_result kind s Body p) (break_events s stop) (row_result kind s Delimiter (after s stop)) zs
           ∙ ap (λ (es : List Event). wrote k es zs) head-is,
     )
 
@@ -110,24 +105,3 @@ module _ (kind : ℕ → ℕ) (s : List ℕ) (p : Point) where
 
       pub head-marks : Inside s (after s stop) × Few (n₁ + 2) (row_result kind s Delimiter (after s stop))
       head-marks = (rw (stop-after s p) (after-inside s p z h.inside), omega (arith, head_small))
-
--- ## Line ends
-
-pub break_said : (s : List ℕ) (w : Written) → AtEnd s w → (zs : List Event) → set (set zs w.slot (enter LineEnding (point_at w))) (w.slot + 1) (leave LineEnding (after s (point_at w))) ≡ wrote w.slot (break_result s (point_at w)) zs
-break_said s w h zs =
-    let p = point_at w in
-    two_said w.slot (enter LineEnding p) (leave LineEnding (after s p)) zs
-    ∙ (λ i. wrote w.slot (enter LineEnding (sym (stop-here s p h.rest h.inside) i) ∷ leave LineEnding (after s p) ∷ []) zs)
-
--- ## The end of a table
-
-pub end_said : (go : Bool) (w : Written) (zs : List Event)
-    → (written_at (point_at w) (past_if go w.slot + 1) ≡ written_at (point_at w) (w.slot + length (end_result go (point_at w))))
-    × (set (wrote w.slot (event_if go (leave GfmTableBody (point_at w))) zs) (past_if go w.slot) (leave GfmTable (point_at w)) ≡ wrote w.slot (end_result go (point_at w)) zs)
-end_said go w zs =
-    let a = event_if go (leave GfmTableBody (point_at w)) in
-    let b = leave GfmTable (point_at w) in
-    let e = past-if go w.slot (leave GfmTableBody (point_at w)) in (
-      ap {B = Written} (written_at (point_at w)) (omega (arith, e, length-append a (b ∷ []))),
-      (λ i. set (wrote w.slot a zs) (e i) b) ∙ sym (wrote-append w.slot a (b ∷ []) zs ∙ wrote_one (w.slot + length a) b (wrote w.slot a zs)),
-    )

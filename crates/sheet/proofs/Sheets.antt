@@ -14,7 +14,8 @@ use Rattle.tokenizer.specs.declared.event.Event.{Event}
 use Rattle.tokenizer.specs.declared.refusal.Refusal.{Refusal}
 use Rattle.tokenizer.specs.Bytes.{kinds_refusal}
 use Rattle.tokenizer.specs.Events.{blank_event}
-use Rattle.tokenizer.specs.Slots.{cleared, cleared_from, wrote}
+use Rattle.tokenizer.specs.Refusals.{length_refusal}
+use Rattle.tokenizer.specs.Slots.{cleared, wrote}
 use Rattle.tokenizer.proofs.Answering.{ok-answered, err-answered}
 use Rattle.tokenizer.proofs.Blanks.{slots_none, cleared_all}
 use Rattle.tokenizer.proofs.Writing.{wrote_cleared}
@@ -23,7 +24,7 @@ use Rattle.sheet.specs.declared.calls.SheetCounts.{SheetCounts}
 use Rattle.sheet.specs.Walk.{Found, raw_of, resolved_of, aligned_of}
 use Rattle.sheet.specs.Aligning.{zeros}
 use Rattle.sheet.specs.Writing.{counts_of, aligned_from}
-use Rattle.sheet.specs.Calls.{long_refusal, result_refusal, sheet_tables, sheet_number, sheet_of, sheet_raw, sheet_results, sheet_aligned}
+use Rattle.sheet.specs.Calls.{result_refusal, sheet_tables, sheet_number, sheet_of, sheet_raw, sheet_results, sheet_aligned}
 use Rattle.sheet.proofs.Slots.{cleared-zeros, aligned-kept}
 
 -- a question that none before it answers no, and that it does not either
@@ -61,15 +62,15 @@ module _ (s t : List ℕ) (on : Bool) (ys ms : List Event) (ks : List ℕ) where
   enough-slots : sheet_number s t on n m k ≡ 0 → (length (raw_of fs) ≤ n) × ((length (resolved_of fs) ≤ m) × (length (aligned_of fs) ≤ k))
   enough-slots z =
       let a = or-0 (kinds_refusal t) _ z in
-      let b = or-0 (long_refusal s) _ a.1 in
+      let b = or-0 (length_refusal s) _ a.1 in
       let c = or-0 (slot_refusal n (raw_of fs)) _ b.1 in
       let d = or-0 (result_refusal m (resolved_of fs)) _ c.1 in
       (enough 9 n _ (λ e. omega arith) c.0, (enough 12 m _ (λ e. omega arith) d.0, enough 14 k _ (λ e. omega arith) d.1))
 
   -- the slots cleared behind what is kept of an answer
   pub record Right (r : Result SheetCounts Refusal) (zs ws : List Event) (us : List ℕ) : Type 0 where
-    pub events : cleared_from (result_unwrap_or r none).events zs ≡ sheet_raw s t on n m k
-    pub results : cleared_from (result_unwrap_or r none).results ws ≡ sheet_results s t on n m k
+    pub events : cleared blank_event (result_unwrap_or r none).events zs ≡ sheet_raw s t on n m k
+    pub results : cleared blank_event (result_unwrap_or r none).results ws ≡ sheet_results s t on n m k
     pub aligned : cleared 0 (result_unwrap_or r none).alignments us ≡ sheet_aligned s t on n m k
 
   pub right : (r : Result SheetCounts Refusal) (zs ws : List Event) (us : List ℕ) → r ≡ sheet_of s t on n m k → length zs ≡ n → length ws ≡ m → length us ≡ k

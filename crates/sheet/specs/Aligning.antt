@@ -1,5 +1,6 @@
 -- Alignments that are written to lent slots.
-use Rattle.std.specs.Prelude.{ℕ, ◌+◌, ◌-◌, ◌≡◌, List, [], ◌∷◌, ◌++◌, Bool, cond, ◌&&◌, eqb, leb, length, take, drop, replicate}
+use Rattle.std.specs.Prelude.{ℕ, ◌+◌, ◌-◌, ◌≡◌, List, [], ◌∷◌, ◌++◌, Bool, cond, ◌&&◌, not, eqb, leb, length, take, drop, replicate, Option, Some, None, is_some, IfSome}
+use Rattle.tokenizer.specs.declared.kinds.Kind.{Kind}
 use Rattle.tokenizer.specs.Bytes.{kind_number}
 use Rattle.tokenizer.specs.Lines.{line_body, is_empty}
 use Rattle.gfm_table.specs.Heads.{stretches, trimmed, untrailed, values, alignment, alignments}
@@ -29,9 +30,14 @@ pub record EndNumbers : Type 0 where
   pub last : ℕ
   pub end : ℕ
 
+-- the number of a kind, that of whitespace where there is none
+abbrev pub end_number : Option Kind → ℕ
+end_number None = 1
+end_number (Some k) = kind_number k
+
 -- those of some ends
 abbrev pub end_numbers : Ends → EndNumbers
-end_numbers e = record { first = kind_number e.first; last = kind_number e.last; end = e.end }
+end_numbers e = record { first = end_number e.first; last = end_number e.last; end = e.end }
 
 -- with one more byte of the kind k
 abbrev pub ends_over : EndNumbers → ℕ → EndNumbers
@@ -48,11 +54,11 @@ module _ (kind : ℕ → ℕ) where
   scanned i u = ends_past (record { first = 1; last = 1; end = i }) (stretch kind u)
 
 module _ (kind : ℕ → ℕ) where
-  -- the first stretch of a line, from a place on
+  -- the first stretch of a line, from a place on: an empty one has no alignment
   pub record Marked (u : List ℕ) (i : ℕ) (m : Mark) : Type 0 where
     pub end : m.end ≡ i + length (stretch kind u)
-    pub empty : m.empty ≡ is_empty (written kind u)
-    pub align : number_of m.align ≡ alignment kind (written kind u)
+    pub empty : is_some m.align ≡ not (is_empty (written kind u))
+    pub align : IfSome m.align (λ a. number_of a ≡ alignment kind (written kind u))
 
 -- ## Slots
 

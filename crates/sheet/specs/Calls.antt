@@ -3,7 +3,7 @@ use Rattle.std.specs.Prelude.{ℕ, List, [], Bool, cond, eqb, ltb, length, Resul
 use Rattle.tokenizer.specs.declared.event.Event.{Event}
 use Rattle.tokenizer.specs.Bytes.{kind_in, kinds_refusal}
 use Rattle.tokenizer.specs.declared.refusal.Refusal.{Refusal}
-use Rattle.tokenizer.specs.Refusals.{answered}
+use Rattle.tokenizer.specs.Refusals.{length_refusal, answered}
 use Rattle.tokenizer.specs.Slots.{slots_of}
 use Rattle.gfm_table.specs.Calls.{or_else, slot_refusal}
 use Rattle.sheet.specs.declared.calls.SheetCounts.{SheetCounts}
@@ -12,10 +12,6 @@ use Rattle.sheet.specs.Aligning.{aligned_into}
 use Rattle.sheet.specs.Writing.{counts_of}
 
 -- ## Questions
-
--- question 1
-abbrev pub long_refusal : List ℕ → ℕ
-long_refusal s = cond (ltb 65536 (length s)) 1 0
 
 -- question 12, of result events
 abbrev pub result_refusal : ℕ → List Event → ℕ
@@ -36,7 +32,7 @@ module _ (s t : List ℕ) (on : Bool) (n m k : ℕ) where
   abbrev pub sheet_number : ℕ
   sheet_number =
       or_else (kinds_refusal t)
-      (or_else (long_refusal s)
+      (or_else (length_refusal s)
       (or_else (slot_refusal n (raw_of sheet_tables))
       (or_else (result_refusal m (resolved_of sheet_tables)) (align_refusal k (aligned_of sheet_tables)))))
 

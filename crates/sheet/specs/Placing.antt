@@ -31,6 +31,10 @@ pub record AtEnd (s : List ℕ) (w : Written) : Type 0 where
 abbrev pub Few : ℕ → List Event → Type 0
 Few k es = k + length es ≤ 4294967295
 
+-- the events of the end of a point's line
+abbrev pub break_events : List ℕ → Point → List Event
+break_events s p = both (line_end (here s p))
+
 module _ (kind : ℕ → ℕ) (s : List ℕ) where
   -- the events of a row
   abbrev pub row_events : Part → Point → List Event
@@ -38,7 +42,7 @@ module _ (kind : ℕ → ℕ) (s : List ℕ) where
 
   -- those of a line's end and of the row of the next line
   abbrev pub next_events : Part → Point → List Event
-  next_events t p = both (line_end (here s p)) ++ row_events t (after s p)
+  next_events t p = break_events s p ++ row_events t (after s p)
 
   -- those of a head
   abbrev pub heads_events : Point → List Event

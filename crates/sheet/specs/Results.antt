@@ -1,24 +1,19 @@
 -- The result events of a table, row by row.
-use Rattle.std.specs.Prelude.{ℕ, List, [], ◌∷◌, ◌++◌, Bool, cond}
+use Rattle.std.specs.Prelude.{ℕ, List, [], ◌∷◌, ◌++◌}
 use Rattle.tokenizer.specs.declared.event.Point.{Point}
 use Rattle.tokenizer.specs.declared.event.Event.{Event}
-use Rattle.tokenizer.specs.Events.{GfmTable, GfmTableBody, GfmTableHead, enter, leave, point_of}
+use Rattle.tokenizer.specs.Events.{GfmTable, GfmTableHead, enter, leave}
 use Rattle.tokenizer.specs.Places.{end_of, lines_past}
-use Rattle.tokenizer.specs.Slots.{event_if}
 use Rattle.tokenizer.specs.Moves.{rest_of, after}
 use Rattle.gfm_table.specs.declared.stream.Part.{Part}
 use Rattle.gfm_table.specs.declared.stream.Part.TheVariants.{Delimiter, Body}
-use Rattle.gfm_table.specs.Rows.{both}
 use Rattle.gfm_table.specs.Raw.{row_at}
 use Rattle.gfm_table.specs.Stream.{name_of, pieces_of}
-use Rattle.edit_map.specs.Tables.{BodyRow, resolved_row, resolved_text, resolved_rows}
+use Rattle.edit_map.specs.Tables.{BodyRow, resolved_row}
 use Rattle.edit_map.specs.CellRows.{cell_of, inside_of}
-use Rattle.sheet.specs.Walk.{line_end, body_rows}
+use Rattle.sheet.specs.Walk.{body_rows}
 use Rattle.sheet.specs.From.{here}
-
--- the result events of the end of the line of a point
-abbrev pub break_result : List ℕ → Point → List Event
-break_result s p = both (line_end (here s p))
+use Rattle.sheet.specs.Placing.{break_events}
 
 module _ (kind : ℕ → ℕ) (s : List ℕ) where
   -- the result events of the row at a point
@@ -28,22 +23,9 @@ module _ (kind : ℕ → ℕ) (s : List ℕ) where
   -- of the table whose head line starts at a point, up to its head's exit
   abbrev pub head_result : Point → List Event
   head_result p =
-      enter GfmTable p ∷ enter GfmTableHead p ∷ (row_result Body p ++ (break_result s p
+      enter GfmTable p ∷ enter GfmTableHead p ∷ (row_result Body p ++ (break_events s p
       ++ (row_result Delimiter (after s p) ++ leave GfmTableHead (end_of (here s (after s p))) ∷ [])))
 
   -- the body rows after the line of a point
   abbrev pub body_after : Point → List BodyRow
   body_after p = body_rows kind (here s p) (lines_past s p)
-
--- of body rows, where the body is entered before the first of them
-abbrev pub opened_rows : List BodyRow → List Event
-opened_rows [] = []
-opened_rows (b ∷ bs) = both b.before ++ (enter GfmTableBody (point_of b.row.entry) ∷ (resolved_text b.row ++ resolved_rows bs))
-
--- of body rows, the first of the table or not
-abbrev pub rows_result : Bool → List BodyRow → List Event
-rows_result first bs = cond first (opened_rows bs) (resolved_rows bs)
-
--- the exits of a body, if there is one, and of a table
-abbrev pub end_result : Bool → Point → List Event
-end_result go p = event_if go (leave GfmTableBody p) ++ leave GfmTable p ∷ []

@@ -18,7 +18,7 @@ pub mod spans;
 pub mod tables;
 pub mod write;
 
-// A whole sheet, read by a table of kinds: its tables' raw events, their result events, and their alignments.
+// A whole sheet, read by a table of kinds: its tables' raw events, their result events, and their alignments. C lends the three as slices of their own.
 pub fn sheet(
     sheet: &[u8],
     kinds: &[u8],

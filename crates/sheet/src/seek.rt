@@ -14,7 +14,7 @@ use gfm_table::values::values_row;
 use tokenizer::event::LineStart;
 use tokenizer::kinds::Kind;
 use tokenizer::lines::line_end;
-use tokenizer::text::Text;
+use tokenizer::text::{Sheet, Text};
 
 // A head: where its line starts, where its delimiter row does, and how many columns it has.
 #[derive(Clone, Copy)]
@@ -29,33 +29,23 @@ pub fn is_shallow(s: &[u8], at: usize, e: usize) -> bool
     requires { (e ≡ at + length (indent kind_of (line_body (drop at s.now)))) × (e < at + 4) }
     ensures { result ≡ shallow kind_of (line_body (drop at s.now)) }
 {
-    for i in at..e {
-        if s[i] == b'\t' {
-            return false;
-        }
-    }
-    true
+    !s.get(at..e).is_some_and(|indent| indent.contains(&b'\t'))
 }
 
 // Whether the line at a place ends a table: it is blank, or a remark. A byte is a unit or more, so 4 bytes of indent are too many for a remark.
-pub fn closes_at(text: &Text, at: usize) -> bool
+pub fn closes_at<const MOST: usize>(text: &Text<MOST>, at: usize) -> bool
     ensures { result ≡ closes (kind_in text.now.kinds.now) (line_body (drop at text.now.bytes.now)) }
 {
     let e = text.space_stop(at);
     if text.kind_at(e) == Kind::End {
         return true;
     }
-    if text.bytes[e] == b'>' {
-        if e - at < 4 {
-            return is_shallow(text.bytes, at, e);
-        }
-    }
-    false
+    text.bytes[e] == b'>' && e - at < 4 && is_shallow(text.bytes, at, e)
 }
 
 // Whether the line at a place has n cells and more than a lone divider.
-pub fn is_head_line(text: &Text, at: usize, n: u32) -> bool
-    requires { (length text.now.bytes.now ≤ 65536) × (at ≤ length text.now.bytes.now) }
+pub fn is_head_line(text: &Sheet, at: usize, n: u32) -> bool
+    requires { at ≤ length text.now.bytes.now }
     ensures { cond result n 0 ≡ columns_if (kind_in text.now.kinds.now) text.now.bytes.now at n }
 {
     let r = head_row(text, at);
@@ -63,42 +53,30 @@ pub fn is_head_line(text: &Text, at: usize, n: u32) -> bool
 }
 
 // The columns of the head whose line and delimiter row start at two places, if they are one, where the row has n values, more than none.
-pub fn columns_of(text: &Text, at: usize, d: usize, on: bool, n: u32) -> Option<u32>
-    requires { (length text.now.bytes.now ≤ 65536) × (at ≤ length text.now.bytes.now) × (d ≤ length text.now.bytes.now) × (n ≡ value_count (kind_in text.now.kinds.now) (line_body (drop d text.now.bytes.now))) × (n ≡ 0 → ⊥) }
+pub fn columns_of(text: &Sheet, at: usize, d: usize, on: bool, n: u32) -> Option<u32>
+    requires { (at ≤ length text.now.bytes.now) × (d ≤ length text.now.bytes.now) × (n ≡ value_count (kind_in text.now.kinds.now) (line_body (drop d text.now.bytes.now))) × (n ≡ 0 → ⊥) }
     ensures { result ≡ positive (columns_of (kind_in text.now.kinds.now) text.now.bytes.now on at d) }
 {
-    if !is_head_line(text, at, n) {
-        return None;
-    }
-    if !permits_at(text, d, on) {
-        return None;
-    }
-    if !permits_at(text, at, on) {
-        return None;
-    }
-    if closes_at(text, at) {
-        return None;
-    }
-    Some(n)
+    (is_head_line(text, at, n)
+        && permits_at(text, d, on)
+        && permits_at(text, at, on)
+        && !closes_at(text, at)).then_some(n)
 }
 
 // The same for any two lines. Few are delimiter rows, so that is asked first, and the first byte rules out most.
-pub fn columns_at(text: &Text, at: usize, d: usize, on: bool) -> Option<u32>
-    requires { (length text.now.bytes.now ≤ 65536) × (at ≤ length text.now.bytes.now) × (d ≤ length text.now.bytes.now) }
+pub fn columns_at(text: &Sheet, at: usize, d: usize, on: bool) -> Option<u32>
+    requires { (at ≤ length text.now.bytes.now) × (d ≤ length text.now.bytes.now) }
     ensures { result ≡ positive (columns_of (kind_in text.now.kinds.now) text.now.bytes.now on at d) }
 {
-    match text.kind_at(d) {
-        Kind::Other | Kind::End => {
-            return None;
-        }
-        _ => {}
+    if matches!(text.kind_at(d), Kind::Other | Kind::End) {
+        return None;
     }
     let n = values_row(text, d)?;
     columns_of(text, at, d, on, n)
 }
 
 // The first head from a line on: one is tried at each line.
-pub fn next_head(text: &Text, from: LineStart, on: bool) -> Option<Opening>
+pub fn next_head(text: &Sheet, from: LineStart, on: bool) -> Option<Opening>
     requires { AtLine text.now.bytes.now (start_of from) }
     ensures { Finds (kind_in text.now.kinds.now) text.now.bytes.now on (start_of from) result }
 {
@@ -106,11 +84,7 @@ pub fn next_head(text: &Text, from: LineStart, on: bool) -> Option<Opening>
     loop {
         let i = head.at as usize;
         let e = text.line_stop(i);
-        let n = line_end(text.bytes, e) as usize;
-        if n == 0 {
-            return None;
-        }
-        let d = e + n;
+        let d = e + line_end(text.bytes, e)? as usize;
         if let Some(columns) = columns_at(text, i, d, on) {
             return Some(Opening {
                 head,
@@ -118,9 +92,6 @@ pub fn next_head(text: &Text, from: LineStart, on: bool) -> Option<Opening>
                 columns,
             });
         }
-        head = LineStart {
-            line: head.line + 1,
-            at: d as u32,
-        };
+        head = head.next(d as u32);
     }
 }

@@ -10,7 +10,7 @@ ghost use Rattle.sheet.specs.Spans.{EndsBody, FirstTable};
 use crate::seek::{closes_at, next_head};
 use tokenizer::event::LineStart;
 use tokenizer::lines::line_end;
-use tokenizer::text::Text;
+use tokenizer::text::Sheet;
 
 // Where the last row of a table ends, and the line where the walk goes on: the blank line or the remark behind it, or an empty one at the sheet's end.
 #[derive(Clone, Copy)]
@@ -19,7 +19,7 @@ pub struct Tail {
     pub next: LineStart,
 }
 
-// The places of a table: its head line, where its delimiter row starts, how many alignments it has, where its last row ends, and the line where the walk goes on.
+// The places of a table, by names of their own, as `FirstTable` has them: its head line, where its delimiter row starts, how many alignments it has, where its last row ends, and the line where the walk goes on.
 #[derive(Clone, Copy)]
 pub struct Span {
     pub head: LineStart,
@@ -30,16 +30,15 @@ pub struct Span {
 }
 
 // The end of the body rows after a line of a table.
-pub fn body_end(text: &Text, from: LineStart) -> Tail
+pub fn body_end(text: &Sheet, from: LineStart) -> Tail
     requires { AtLine text.now.bytes.now (start_of from) }
     ensures { EndsBody (kind_in text.now.kinds.now) text.now.bytes.now (start_of from) result }
 {
     let mut row = from;
     loop {
         let e = text.line_stop(row.at as usize);
-        let n = line_end(text.bytes, e) as usize;
         let stop = e as u32;
-        if n == 0 {
+        let Some(n) = line_end(text.bytes, e) else {
             return Tail {
                 stop,
                 next: LineStart {
@@ -47,12 +46,9 @@ pub fn body_end(text: &Text, from: LineStart) -> Tail
                     at: stop,
                 },
             };
-        }
-        let next = LineStart {
-            line: row.line + 1,
-            at: (e + n) as u32,
         };
-        if closes_at(text, e + n) {
+        let next = row.next(stop + n);
+        if closes_at(text, next.at as usize) {
             return Tail { stop, next };
         }
         row = next;
@@ -60,15 +56,12 @@ pub fn body_end(text: &Text, from: LineStart) -> Tail
 }
 
 // The first table from a line on.
-pub fn table_from(text: &Text, on: bool, from: LineStart) -> Option<Span>
+pub fn table_from(text: &Sheet, on: bool, from: LineStart) -> Option<Span>
     requires { AtLine text.now.bytes.now (start_of from) }
     ensures { FirstTable (kind_in text.now.kinds.now) text.now.bytes.now on result (heads (kind_in text.now.kinds.now) on (lines_from text.now.bytes.now (start_of from))) }
 {
     let opening = next_head(text, from, on)?;
-    let row = LineStart {
-        line: opening.head.line + 1,
-        at: opening.delimiter,
-    };
+    let row = opening.head.next(opening.delimiter);
     let tail = body_end(text, row);
     Some(Span {
         head: opening.head,

@@ -13,30 +13,24 @@ use crate::spans::table_from;
 use crate::tables::raw_table;
 use tokenizer::event::{Event, LineStart};
 use tokenizer::kinds::asked;
-use tokenizer::lines::first_start;
 use tokenizer::refusal::Refusal;
-use tokenizer::text::Text;
+use tokenizer::text::{Sheet, length_asked};
 
 // All tables: their raw events, their result events and their alignments, each as far as there are slots, and how many there are.
 fn write_tables(
-    text: &Text,
+    text: &Sheet,
     on: bool,
     raw: &mut [Event],
     results: &mut [Event],
     alignments: &mut [u8],
 ) -> SheetCounts
-    requires { length text.now.bytes.now ≤ 65536 }
     ensures { (result ≡ counts_of (tables (kind_in text.now.kinds.now) on text.now.bytes.now))
         × ((raw.new ≡ wrote 0 (raw_of (tables (kind_in text.now.kinds.now) on text.now.bytes.now)) raw.old)
         × ((results.new ≡ wrote 0 (resolved_of (tables (kind_in text.now.kinds.now) on text.now.bytes.now)) results.old)
         × (alignments.new ≡ aligned_from 0 (tables (kind_in text.now.kinds.now) on text.now.bytes.now) alignments.old))) }
 {
-    let first = LineStart {
-        line: 1,
-        at: first_start(text.bytes) as u32,
-    };
     let mut counts = SheetCounts::NONE;
-    let mut next = table_from(text, on, first);
+    let mut next = table_from(text, on, LineStart::first(text.bytes));
     while let Some(table) = next {
         let a = raw_table(text, table.head, table.stop, raw, counts.events);
         let b = result_table(text, table.head, table.stop, results, counts.results);
@@ -75,10 +69,8 @@ pub fn read_tables(
     ensures alignments { IfOk result (λ _. alignments.new ≡ aligned_from 0 (sheet_tables sheet.now kinds.now code_indented (length raw.old) (length results.old) (length alignments.old)) alignments.old) }
 {
     asked(kinds)?;
-    if 65536 < sheet.len() {
-        return Err(Refusal::SheetTooLong);
-    }
-    let text = Text {
+    length_asked(sheet)?;
+    let text = Sheet {
         bytes: sheet,
         kinds,
     };

@@ -30,6 +30,7 @@ pub fn answer(out: &mut impl Write, mut words: Words, kinds: &[u8]) -> Option<io
     let n = words.number_to(1024)?;
     let m = words.number_to(1024)?;
     let k = words.number_to(1024)?;
+    // An array of a fixed size: the project has no heap.
     let mut text = [0u8; 4096];
     let length = words.bytes(&mut text)?;
     words.end()?;

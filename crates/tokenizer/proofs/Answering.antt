@@ -1,14 +1,16 @@
 -- What an answer that is told by a number says of the number.
 -- Assumes nothing.
-use Prim.Native.Nat.{ℕ}
-use mathlib.Core.Path.{◌≡◌}
+use Prim.Native.Nat.{ℕ, ◌≤◌}
+use mathlib.Core.Path.{◌≡◌, refl}
 use mathlib.Core.Bool.{Bool, true, false, cond}
+use mathlib.Core.List.{List}
 use native.Mathlib.Omega.{arith}
-use borrow.Author.Tests.{eq-eqb, ne_eqb, eqb-true, eqb-false}
-use lib.Dec.{eqb}
+use borrow.Author.Tests.{eq-eqb, ne_eqb, eqb-true, eqb-false, ltb-false}
+use lib.Dec.{eqb, ltb}
+use lib.ListN.{length}
 use Rattle.std.specs.Prelude.{Ok, Err}
 use Rattle.tokenizer.specs.declared.refusal.Refusal.{Refusal}
-use Rattle.tokenizer.specs.Refusals.{refusal_of, answered}
+use Rattle.tokenizer.specs.Refusals.{refusal_of, length_refusal, answered}
 
 module _ {A : Type 0} where
   -- accepted: the number is 0
@@ -33,3 +35,11 @@ module _ {A : Type 0} where
 
   pub answered-err : (n : ℕ) (x : A) → (n ≡ 0 → ⊥) → Err (refusal_of n) ≡ answered n x
   answered-err n x h = rw (ne_eqb n 0 h)
+
+-- question 1 is answered yes of a sheet of at most 65,536 bytes
+pub short_enough : (s : List ℕ) → length_refusal s ≡ 0 → length s ≤ 65536
+short_enough s e = go (ltb 65536 (length s)) refl e
+  where
+    go : (t : Bool) → ltb 65536 (length s) ≡ t → ◌≡◌ {A = ℕ} (cond t 1 0) 0 → length s ≤ 65536
+    go true h z = absurd (omega (arith, z))
+    go false h z = ltb-false 65536 (length s) h

@@ -8,7 +8,7 @@ use native.Mathlib.Numerals.{add-one}
 use lib.ListN.{length, set, replicate}
 use Rattle.tokenizer.specs.declared.event.Event.{Event}
 use Rattle.tokenizer.specs.Events.{blank_event}
-use Rattle.tokenizer.specs.Slots.{slots_of, cleared, cleared_from}
+use Rattle.tokenizer.specs.Slots.{slots_of, cleared}
 
 -- slots without an event
 pub slots_none : (n : ℕ) → slots_of n [] ≡ replicate n blank_event
@@ -17,7 +17,7 @@ slots_none zero = refl
 slots_none (suc n) = ap {B = List Event} (λ r. blank_event ∷ r) (slots_none n)
 
 -- all are cleared
-pub cleared_all : (xs : List Event) → cleared_from 0 xs ≡ replicate (length xs) blank_event
+pub cleared_all : (xs : List Event) → cleared blank_event 0 xs ≡ replicate (length xs) blank_event
 unfolding cleared
 cleared_all [] = refl
 cleared_all (x ∷ xs) = ap {B = List Event} (λ r. blank_event ∷ r) (cleared_all xs)

@@ -8,10 +8,12 @@ use native.Mathlib.Omega.{arith}
 use lib.Dec.{eqb}
 use lib.ListN.{length, drop, length-drop}
 use lib.Seq.{drop-drop}
+use Rattle.std.specs.Prelude.{Option, Some, None, ◌<◌}
+use Rattle.std.specs.Option.{unwrap_or}
 use Rattle.tokenizer.specs.declared.event.Point.{Point}
 use Rattle.tokenizer.specs.Bytes.{is_end, Reads}
 use Rattle.tokenizer.specs.Points.{past}
-use Rattle.tokenizer.specs.Lines.{starts_lf, line_body, end_at, is_empty, indent, unindented, blank}
+use Rattle.tokenizer.specs.Lines.{starts_lf, line_body, end_at, line_end, is_empty, indent, unindented, blank}
 use Rattle.tokenizer.specs.Moves.{ahead_of, rest_of, line_at, after, Inside}
 use Rattle.tokenizer.proofs.Runs.{space_split}
 use Rattle.tokenizer.proofs.Ahead.{inside_past, rest-past, run_end, rest_end}
@@ -33,6 +35,32 @@ end_fits (b ∷ []) = (go (eqb b 13), end_two b [])
     go true = omega arith
     go false = omega arith
 end_fits (b ∷ c ∷ u) = (omega (arith, end_two b (c ∷ u)), end_two b (c ∷ u))
+
+-- none stands where the sheet ends
+pub no_end : (u : List ℕ) → line_end u ≡ None → end_at u ≡ 0
+no_end [] e = refl
+no_end (b ∷ u) e = cc
+
+-- one that stands there is no shorter than a byte
+pub an_end : (u : List ℕ) (n : ℕ) → line_end u ≡ Some n → (end_at u ≡ n) × ((0 < n) × (0 < length u))
+an_end [] n e = cc
+an_end (b ∷ u) n e = let f : end_at (b ∷ u) ≡ n = ap (λ (o : Option ℕ). unwrap_or o 0) e in (f, (omega (arith, f, positive (eqb b 13 && starts_lf u)), omega arith))
+  where
+    positive : (t : Bool) → 0 < cond t 2 1
+    positive true = omega arith
+    positive false = omega arith
+
+-- the same of an answer that was read
+pub end_read : (u : List ℕ) (o : Option ℕ) (n : ℕ) → o ≡ line_end u → o ≡ Some n → (n ≡ end_at u) × (n ≡ 0 → ⊥)
+end_read u o n e h = let some = an_end u n (sym e ∙ h) in (sym some.0, λ z. omega (arith, z, some.1.0))
+
+pub none_read : (u : List ℕ) (o : Option ℕ) → o ≡ line_end u → o ≡ None → end_at u ≡ 0
+none_read u o e h = no_end u (sym e ∙ h)
+
+-- its length, 0 for none
+pub end_or : (u : List ℕ) → unwrap_or (line_end u) 0 ≡ end_at u
+end_or [] = refl
+end_or (b ∷ u) = refl
 
 module _ (s : List ℕ) (p : Point) where
   -- the line end where the line's bytes end

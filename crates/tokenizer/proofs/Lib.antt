@@ -4,6 +4,8 @@ pub mod Bytes
 pub mod KindTables
 pub mod Runs
 pub mod Ahead
+pub mod SameTags
+pub mod Chosen
 pub mod SameKinds
 pub mod SameNames
 pub mod Ends

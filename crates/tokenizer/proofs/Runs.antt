@@ -1,11 +1,13 @@
 -- Runs in front of a line: of one kind, and of whitespace.
 -- Assumes nothing.
-use Prim.Native.Nat.{ℕ}
+use Prim.Native.Nat.{ℕ, ◌<◌}
 use mathlib.Core.Path.{◌≡◌, refl, ap}
 use mathlib.Core.Bool.{Bool, true, false, cond}
 use mathlib.Core.List.{List, [], ◌∷◌, ◌++◌}
+use native.Mathlib.Omega.{arith}
 use borrow.Author.Tests.{eq-eqb, ne_eqb}
 use lib.Dec.{eqb}
+use Rattle.tokenizer.specs.Bytes.{kind_in, Passes}
 use Rattle.tokenizer.specs.Lines.{indent, unindented}
 use Rattle.tokenizer.specs.Moves.{run_of, after_run}
 
@@ -44,3 +46,9 @@ module _ (kind : ℕ → ℕ) where
   pub space_on : (b : ℕ) (u : List ℕ) → kind b ≡ 1 → indent kind (b ∷ u) ≡ b ∷ indent kind u
   unfolding indent
   space_on b u e = rw e
+
+-- by a table that passes no byte has a kind above 6
+pub no_run : (t : List ℕ) → Passes t → (k : ℕ) → 6 < k → (u : List ℕ) → run_of (kind_in t) k u ≡ []
+unfolding run_of
+no_run t p k h [] = refl
+no_run t p k h (b ∷ u) = rw (ne_eqb (kind_in t b) k (λ e. omega (arith, e, h, p.most b)))

@@ -5,7 +5,6 @@ use mathlib.Core.List.{List}
 use lib.ListN.{drop}
 use mathlib.Core.Path.{◌≡◌, refl, sym, ◌∙◌}
 use mathlib.Core.Bool.{Bool, true, false, not}
-use borrow.Author.Tests.{eq-eqb, eqb-true}
 use lib.Dec.{eqb}
 use denote.Enum.Declared.{tag_of}
 use denote.Enum.Bare.{sameb}
@@ -15,6 +14,7 @@ use Rattle.tokenizer.specs.declared.kinds.Kind.TheVariants.{Other, Space, End, P
 use Rattle.tokenizer.specs.Bytes.{kind_number, Reads}
 use Rattle.tokenizer.specs.Moves.{ahead_of}
 use Rattle.tokenizer.proofs.Ahead.{Front, goes}
+use Rattle.tokenizer.proofs.SameTags.{same, other, not_unlike, unlike}
 
 tagged : (k : Kind) → tag_of the_type k ≡ kind_number k
 tagged Other = refl
@@ -31,26 +31,18 @@ same-numbers a b = rw (tagged a, tagged b)
 
 -- where it answers yes, the numbers are equal
 pub same_number : (a b : Kind) {t : Bool} → t ≡ sameb the_type a b → t ≡ true → kind_number a ≡ kind_number b
-same_number a b e h = eqb-true _ _ (sym (same-numbers a b) ∙ sym e ∙ h)
+same_number = same (sameb the_type) kind_number same-numbers
 
 -- and where another test of them answers no
 pub no_other : (a b : Kind) {t : Bool} → t ≡ not (sameb the_type a b) → t ≡ false → kind_number a ≡ kind_number b
-no_other a b e h = same_number a b {t = true} (go (sameb the_type a b) (sym e ∙ h)) refl
-  where
-    go : (v : Bool) → not v ≡ false → true ≡ v
-    go true q = refl
-    go false q = q
+no_other = not_unlike (sameb the_type) kind_number same-numbers
 
 -- where it answers no, they differ
 pub other_number : (a b : Kind) {t : Bool} → t ≡ sameb the_type a b → t ≡ false → kind_number a ≡ kind_number b → ⊥
-other_number a b e h z = let f : true ≡ false = sym (eq-eqb _ _ z) ∙ sym (same-numbers a b) ∙ sym e ∙ h in cc
+other_number = other (sameb the_type) kind_number same-numbers
 
 pub another : (a b : Kind) {t : Bool} → t ≡ not (sameb the_type a b) → t ≡ true → kind_number a ≡ kind_number b → ⊥
-another a b e h = other_number a b {t = false} (go (sameb the_type a b) (sym e ∙ h)) refl
-  where
-    go : (v : Bool) → not v ≡ true → false ≡ v
-    go true q = q
-    go false q = refl
+another = unlike (sameb the_type) kind_number same-numbers
 
 -- at a byte of the kind k, which is not a line end's, the line goes on
 pub same_front : {kind : ℕ → ℕ} (ok : Reads kind) (s : List ℕ) (i : ℕ) (a k : Kind) {t : Bool} → kind_number a ≡ ahead_of kind (drop i s) → t ≡ sameb the_type a k → t ≡ true → (kind_number k ≡ 2 → ⊥) → Front kind s i (kind_number k)

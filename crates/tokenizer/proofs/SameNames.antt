@@ -2,9 +2,8 @@
 -- Assumes nothing.
 use Prim.Native.Nat.{◌+◌}
 use native.Mathlib.Numerals.{add-one}
-use mathlib.Core.Path.{◌≡◌, refl, sym, ◌∙◌}
+use mathlib.Core.Path.{◌≡◌, refl}
 use mathlib.Core.Bool.{Bool, true, false, not}
-use borrow.Author.Tests.{eq-eqb, eqb-true}
 use lib.Dec.{eqb, eqb-suc-suc}
 use denote.Enum.Declared.{tag_of}
 use denote.Enum.Bare.{sameb}
@@ -12,6 +11,7 @@ use Rattle.tokenizer.specs.contracts.event.Name.{the_type}
 use Rattle.tokenizer.specs.declared.event.Name.{Name}
 use Rattle.tokenizer.specs.declared.event.Name.TheVariants.{SpaceOrTab, LineEnding, Data, GfmTable, GfmTableBody, GfmTableHead, GfmTableRow, GfmTableCell, GfmTableCellText, GfmTableCellDivider, GfmTableDelimiterRow, GfmTableDelimiterMarker, GfmTableDelimiterCell, GfmTableDelimiterCellValue, GfmTableDelimiterFiller}
 use Rattle.tokenizer.specs.Events.{number}
+use Rattle.tokenizer.proofs.SameTags.{same, other, not_unlike, unlike}
 
 -- a name's number is one more than its place in the declaration
 pub tagged : (n : Name) → tag_of the_type n + 1 ≡ number n
@@ -37,23 +37,15 @@ same-names a b = rw (← tagged a, ← tagged b, add-one (tag_of the_type a), ad
 
 -- where it answers yes, the numbers are equal
 pub same_name : (a b : Name) {t : Bool} → t ≡ sameb the_type a b → t ≡ true → number a ≡ number b
-same_name a b e h = eqb-true _ _ (sym (same-names a b) ∙ sym e ∙ h)
+same_name = same (sameb the_type) number same-names
 
 -- and where another test of them answers no
 pub no_other_name : (a b : Name) {t : Bool} → t ≡ not (sameb the_type a b) → t ≡ false → number a ≡ number b
-no_other_name a b e h = same_name a b {t = true} (go (sameb the_type a b) (sym e ∙ h)) refl
-  where
-    go : (v : Bool) → not v ≡ false → true ≡ v
-    go true q = refl
-    go false q = q
+no_other_name = not_unlike (sameb the_type) number same-names
 
 -- where it answers no, they differ
 pub other_name : (a b : Name) {t : Bool} → t ≡ sameb the_type a b → t ≡ false → number a ≡ number b → ⊥
-other_name a b e h z = let f : true ≡ false = sym (eq-eqb _ _ z) ∙ sym (same-names a b) ∙ sym e ∙ h in cc
+other_name = other (sameb the_type) number same-names
 
 pub another_name : (a b : Name) {t : Bool} → t ≡ not (sameb the_type a b) → t ≡ true → number a ≡ number b → ⊥
-another_name a b e h = other_name a b {t = false} (go (sameb the_type a b) (sym e ∙ h)) refl
-  where
-    go : (v : Bool) → not v ≡ true → false ≡ v
-    go true q = q
-    go false q = refl
+another_name = unlike (sameb the_type) number same-names

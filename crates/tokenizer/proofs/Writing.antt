@@ -5,10 +5,10 @@ use mathlib.Core.Path.{◌≡◌, refl, sym, ap, ◌∙◌}
 use mathlib.Core.List.{List, [], ◌∷◌, ◌++◌}
 use mathlib.Core.Bool.{Bool, true, false}
 use lib.ListN.{length, set, length-set}
-use lib.Seq.{set_out}
 use native.Mathlib.Omega.{arith}
 use Rattle.tokenizer.specs.declared.event.Event.{Event}
-use Rattle.tokenizer.specs.Slots.{slots_of, cleared, cleared_from, wrote, nowhere, slot_if, past_if, event_if}
+use Rattle.tokenizer.specs.Events.{blank_event}
+use Rattle.tokenizer.specs.Slots.{slots_of, cleared, wrote, past_if, event_if}
 use Rattle.tokenizer.proofs.Blanks.{slots_none, cleared_all}
 
 -- nothing, and one event
@@ -44,18 +44,13 @@ behind-first i [] z zs = refl
 behind-first i (e ∷ es) z zs = behind-first (suc i) es z (set zs i e)
 
 -- events that fit, and blank ones behind them
-pub wrote_cleared : (es zs : List Event) → length es ≤ length zs → cleared_from (length es) (wrote 0 es zs) ≡ slots_of (length zs) es
+pub wrote_cleared : (es zs : List Event) → length es ≤ length zs → cleared blank_event (length es) (wrote 0 es zs) ≡ slots_of (length zs) es
 unfolding wrote cleared slots_of
 wrote_cleared [] zs h = cleared_all zs ∙ sym (slots_none (length zs))
 wrote_cleared (e ∷ es) [] h = absurd (omega arith)
-wrote_cleared (e ∷ es) (z ∷ zs) h = ap (cleared_from (suc (length es))) (behind-first 0 es e zs) ∙ ap (λ (l : List Event). e ∷ l) (wrote_cleared es zs (omega arith))
+wrote_cleared (e ∷ es) (z ∷ zs) h = ap (cleared blank_event (suc (length es))) (behind-first 0 es e zs) ∙ ap (λ (l : List Event). e ∷ l) (wrote_cleared es zs (omega arith))
 
--- one event, or none, is written by its place
-pub wrote-if : (b : Bool) (i : ℕ) (e : Event) (zs : List Event) → length zs ≤ nowhere → set zs (slot_if b i) e ≡ wrote i (event_if b e) zs
-unfolding wrote
-wrote-if true i e zs h = refl
-wrote-if false i e zs h = set_out zs nowhere e h
-
+-- the place behind one event, or none
 pub past-if : (b : Bool) (i : ℕ) (e : Event) → past_if b i ≡ i + length (event_if b e)
 past-if true i e = refl
 past-if false i e = omega arith

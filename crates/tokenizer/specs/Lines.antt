@@ -1,5 +1,5 @@
 -- The lines of a sheet. A line feed, a carriage return, or the two in this order end a line.
-use Rattle.std.specs.Prelude.{ℕ, zero, suc, ◌+◌, Bool, true, false, cond, ◌&&◌, ◌||◌, not, List, [], ◌∷◌, eqb, length, drop}
+use Rattle.std.specs.Prelude.{ℕ, zero, suc, ◌+◌, Option, None, Some, Bool, true, false, cond, ◌&&◌, ◌||◌, not, List, [], ◌∷◌, eqb, length, drop}
 use Rattle.tokenizer.specs.Bytes.{is_end}
 
 -- whether a line feed stands in front
@@ -23,6 +23,11 @@ line_body (b ∷ u) = cond (is_end b) [] (b ∷ line_body u)
 abbrev pub end_at : List ℕ → ℕ
 end_at [] = 0
 end_at (b ∷ u) = cond (eqb b 13 && starts_lf u) 2 1
+
+-- the length of the line end in front, where one stands there
+abbrev pub line_end : List ℕ → Option ℕ
+line_end [] = None
+line_end (b ∷ u) = Some (end_at (b ∷ u))
 
 -- the first line, where u is what is left of the sheet
 abbrev pub line_of : List ℕ → Line

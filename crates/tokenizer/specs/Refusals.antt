@@ -1,5 +1,5 @@
 -- Refusals: the questions of 01 and 02 by their numbers.
-use Rattle.std.specs.Prelude.{ℕ, cond, eqb, Result, Ok, Err}
+use Rattle.std.specs.Prelude.{ℕ, List, length, cond, eqb, ltb, Result, Ok, Err}
 use Rattle.tokenizer.specs.declared.refusal.Refusal.{Refusal}
 
 -- the number of the question that a refusal tells was answered no
@@ -42,6 +42,10 @@ refusal_of n =
     (cond (eqb n 20) Refusal.NoKindTable
     (cond (eqb n 21) Refusal.WhitespaceKindsDiffer
     Refusal.PunctuationKindsDiffer)))))))))))))))
+
+-- question 1: 1 where a sheet has more than 65,536 bytes, otherwise 0
+abbrev pub length_refusal : List ℕ → ℕ
+length_refusal s = cond (ltb 65536 (length s)) 1 0
 
 -- what a call answers that is accepted with x, or refused by the first question answered no: its number is n, 0 where there is none
 abbrev pub answered : {A : Type 0} → ℕ → A → Result A Refusal

@@ -18,22 +18,10 @@ cleared blank n [] = []
 cleared blank zero (x ∷ xs) = blank ∷ cleared blank zero xs
 cleared blank (suc n) (x ∷ xs) = x ∷ cleared blank n xs
 
--- slots of events so
-abbrev pub cleared_from : ℕ → List Event → List Event
-cleared_from n xs = cleared blank_event n xs
-
 -- slots of which those from the i-th on are written with some events, as far as there are slots; the others stay
 unfoldable pub wrote : ℕ → List Event → List Event → List Event
 wrote i [] zs = zs
 wrote i (e ∷ es) zs = wrote (suc i) es (set zs i e)
-
--- a place past every slot
-abbrev pub nowhere : ℕ
-nowhere = 18446744073709551615
-
--- the place of a slot that is written, or one past all slots
-abbrev pub slot_if : Bool → ℕ → ℕ
-slot_if b i = cond b i nowhere
 
 -- the place behind a slot that is written, or the same place
 abbrev pub past_if : Bool → ℕ → ℕ

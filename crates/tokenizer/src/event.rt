@@ -1,7 +1,11 @@
 // Points and events, and the names of events.
-ghost use Rattle.std.specs.Prelude.{◌≡◌, [], ◌∷◌, ◌<◌, ◌≤◌};
+ghost use Rattle.std.specs.Prelude.{◌≡◌, [], ◌∷◌, ◌<◌, ◌≤◌, ◌+◌};
 ghost use Rattle.tokenizer.specs.Points.{start, column_after, past, next_line, start_of};
+ghost use Rattle.tokenizer.specs.Lines.{first_start};
 ghost use Rattle.tokenizer.specs.Events.{blank_event, number, enter, leave, point_of};
+
+use crate::lines::first_start;
+use std::fmt;
 
 // A place in the sheet. Lines and columns count from 1; `vs` counts the units passed inside a tab.
 #[repr(C)]
@@ -21,6 +25,27 @@ pub struct LineStart {
 }
 
 impl LineStart {
+    // The first line of a sheet, behind a byte order mark.
+    pub fn first(s: &[u8]) -> LineStart
+        ensures { result ≡ record { line = 1; at = first_start s.now } }
+    {
+        LineStart {
+            line: 1,
+            at: first_start(s) as u32,
+        }
+    }
+
+    // The next line, which starts at a place.
+    pub fn next(self, at: u32) -> LineStart
+        requires { self.line < 1000000 }
+        ensures { result ≡ record { line = self.line + 1; at = at } }
+    {
+        LineStart {
+            line: self.line + 1,
+            at,
+        }
+    }
+
     // The point of a line's start.
     pub fn point(self) -> Point
         ensures { result ≡ start_of self }
@@ -33,8 +58,22 @@ impl LineStart {
     }
 }
 
-// A kind (0 blank, 1 enter, 2 exit), a name, a point, and a link (0 none, 1 text). They are numbers, since the record is C's, and a list that is
-// lent may hold any.
+// What an event does, by the numbers of 01.
+#[derive(Clone, Copy, PartialEq, Eq)]
+pub enum EventKind {
+    Blank = 0,
+    Enter = 1,
+    Exit = 2,
+}
+
+// How an event is linked, by the numbers of 01.
+#[derive(Clone, Copy, PartialEq, Eq)]
+pub enum Link {
+    None = 0,
+    Text = 1,
+}
+
+// A kind, a name, a point and a link. They are numbers, since the record is C's, and a list that is lent may hold any.
 #[repr(C)]
 #[derive(Clone, Copy, PartialEq, Eq)]
 pub struct Event {
@@ -92,7 +131,19 @@ impl Point {
     // The most units that a head may be indented by, where indented code is on.
     pub const INDENT_CAP: usize = 3;
 
-    // The start value.
+    // The point before a whole byte: no unit of a tab is passed.
+    pub fn new(line: u32, column: u32, index: u32) -> Self
+        ensures { result ≡ record { line = line; column = column; index = index; vs = 0 } }
+    {
+        Point {
+            line,
+            column,
+            index,
+            vs: 0,
+        }
+    }
+
+    // The start value: 01 names a constructor beside the constant.
     pub fn start() -> Self
         ensures { result ≡ start }
     {
@@ -117,56 +168,79 @@ impl Point {
         requires { (self.line < 1000000) × (self.index < 1000000) × (n ≤ 2) }
         ensures { result ≡ next_line self n }
     {
-        Point {
-            line: self.line + 1,
-            column: 1,
-            index: self.index + n,
-            vs: 0,
-        }
+        Point::new(self.line + 1, 1, self.index + n)
     }
 }
 
 impl Event {
     // The record of a slot that holds no event.
     pub const BLANK: Event = Event {
-        kind: 0,
+        kind: EventKind::Blank as u8,
         name: 0,
         line: 0,
         column: 0,
         index: 0,
         vs: 0,
-        link: 0,
+        link: Link::None as u8,
     };
 
+    // The same from a function, as `Point::start`.
     pub fn blank() -> Self
         ensures { result ≡ blank_event }
     {
         Self::BLANK
     }
 
-    // A name is entered at a point.
-    pub fn enter(name: Name, p: Point) -> Self
-        ensures { result ≡ enter (number name) p }
+    // A name is entered at a point. It is told by its number, of which it took any before there were names: a `Name` would ask more
+    // of callers. `Name::enter` is for the names of 01.
+    pub fn enter(name: u8, p: Point) -> Self
+        ensures { result ≡ enter name p }
     {
         Event {
-            kind: 1,
-            name: name as u8,
+            kind: EventKind::Enter as u8,
+            name,
             line: p.line,
             column: p.column,
             index: p.index,
             vs: p.vs,
-            link: 0,
+            link: Link::None as u8,
         }
     }
 
-    // A name is left at a point.
-    pub fn exit(name: Name, p: Point) -> Self
-        ensures { result ≡ leave (number name) p }
+    // A name is left at a point, told by its number as above.
+    pub fn exit(name: u8, p: Point) -> Self
+        ensures { result ≡ leave name p }
     {
         Event {
-            kind: 2,
+            kind: EventKind::Exit as u8,
             ..Self::enter(name, p)
         }
+    }
+}
+
+impl Name {
+    // It is entered at a point.
+    pub fn enter(self, p: Point) -> Event
+        ensures { result ≡ enter (number self) p }
+    {
+        Event::enter(self as u8, p)
+    }
+
+    // It is left at a point.
+    pub fn exit(self, p: Point) -> Event
+        ensures { result ≡ leave (number self) p }
+    {
+        Event::exit(self as u8, p)
+    }
+}
+
+impl fmt::Display for Event {
+    fn fmt<W: fmt::Write>(&self, f: &mut fmt::Formatter<W>) -> fmt::Result {
+        write!(
+            f,
+            "{},{},{},{},{},{},{}",
+            self.kind, self.name, self.line, self.column, self.index, self.vs, self.link
+        )
     }
 }
 

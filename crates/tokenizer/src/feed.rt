@@ -1,10 +1,10 @@
 // The feed: a point and the byte that is read there, moved unit by unit, by value or lent and in place. An attempt is a kept copy of it.
 ghost use Rattle.std.specs.Prelude.{◌≡◌, ◌<◌, drop};
-ghost use Rattle.tokenizer.specs.Events.{number, enter, leave};
+ghost use Rattle.tokenizer.specs.Events.{enter, leave};
 ghost use Rattle.tokenizer.specs.Feed.{unit_of, current_of, tab_unit, onward, feed_at, inside_end, back, Fed};
 
-use crate::event::{Event, Name, Point};
-use crate::lines::line_end;
+use crate::event::{Event, Point};
+use crate::lines::{end_length, starts_lf};
 
 // The byte that is read at a point, or the end of the sheet. Not an `Option`: 01 names this form for the current byte.
 #[derive(Clone, Copy)]
@@ -13,6 +13,7 @@ pub enum Byte {
     End,
 }
 
+// Where the sheet is read: a point, and the byte there.
 #[derive(Clone, Copy)]
 pub struct Feed {
     pub point: Point,
@@ -62,7 +63,7 @@ impl Point {
         }
         match s[i] {
             b'\t' => self.tab_unit(),
-            b'\n' | b'\r' => self.next_line(line_end(s, i)),
+            b'\n' | b'\r' => self.next_line(end_length(s, i)),
             _ => self.over(s[i]),
         }
     }
@@ -85,18 +86,15 @@ impl Point {
 pub fn inside_end(s: &[u8], i: usize) -> bool
     ensures { result ≡ inside_end s.now i }
 {
-    0 < i && i < s.len() && s[i] == b'\n' && s[i - 1] == b'\r'
+    0 < i && starts_lf(s, i) && s[i - 1] == b'\r'
 }
 
 // The byte that is read at a point.
 pub fn current(s: &[u8], p: Point) -> Byte
     ensures { result ≡ current_of p (drop p.index s.now) }
 {
-    let i = p.index as usize;
-    if i < s.len() {
-        return Byte::At(unit(s[i], p.vs));
-    }
-    Byte::End
+    s.get(p.index as usize)
+        .map_or(Byte::End, |b| Byte::At(unit(*b, p.vs)))
 }
 
 impl Feed {
@@ -117,7 +115,7 @@ impl Feed {
         Feed::at(s, p.onward(s))
     }
 
-    // One unit is passed, in place.
+    // One unit is passed, in place: the form that 01 names for a feed that is lent.
     pub fn advance(&mut self, s: &[u8])
         requires { Fed s.now self.old.point }
         ensures { self.new ≡ feed_at s.now (onward self.old.point (drop self.old.point.index s.now)) }
@@ -125,17 +123,18 @@ impl Feed {
         *self = self.consume(s);
     }
 
-    // A name is entered here. This and the next are two by the tokenizer's own names: one with the kind is no plainer.
-    pub fn enter(self, s: &[u8], name: Name) -> Event
-        ensures { result ≡ enter (number name) (back s.now self.point) }
+    // A name is entered here, told by its number as at `Event::enter`. No code but callers of the library takes events from a feed. This and the next are two by the tokenizer's own names: one with the kind is
+    // no plainer.
+    pub fn enter(self, s: &[u8], name: u8) -> Event
+        ensures { result ≡ enter name (back s.now self.point) }
     {
         let p = self.point;
         Event::enter(name, p.back(s))
     }
 
     // A name is left here.
-    pub fn exit(self, s: &[u8], name: Name) -> Event
-        ensures { result ≡ leave (number name) (back s.now self.point) }
+    pub fn exit(self, s: &[u8], name: u8) -> Event
+        ensures { result ≡ leave name (back s.now self.point) }
     {
         let p = self.point;
         Event::exit(name, p.back(s))

@@ -9,13 +9,13 @@ use crate::refusal::Refusal;
 // The kind of a byte, by the numbers of 01.
 #[derive(Clone, Copy, PartialEq, Eq)]
 pub enum Kind {
-    Other,
-    Space,
-    End,
-    Pipe,
-    Backslash,
-    Hyphen,
-    Colon,
+    Other = 0,
+    Space = 1,
+    End = 2,
+    Pipe = 3,
+    Backslash = 4,
+    Hyphen = 5,
+    Colon = 6,
 }
 
 // The table of 01, in numbers, since a table of kinds is lent as bytes by C.
@@ -31,7 +31,8 @@ const KINDS: [u8; 256] = [
 ];
 
 impl Kind {
-    // The kind that has a number, at most 6. The last case takes any other: a test of its own there cost 3 instructions a byte.
+    // The kind that has a number, at most 6. The last case takes any other: with a test of its own there a line without a table
+    // took 12.1 instructions a byte, and took 9.1 without.
     pub fn numbered(k: u8) -> Kind
         requires { k ≤ 6 }
         ensures { kind_number result ≡ k }
@@ -71,7 +72,7 @@ pub fn kind_in(kinds: &[u8], b: u8) -> Kind
 }
 
 // What a pass over a table finds: whether no kind is above 6, whether kinds 1 and 2 are those of their bytes, and how many bytes each of
-// kinds 3 to 6 has.
+// kinds 3 to 6 has. No array: each kind is counted under its name, and not at its number less 3.
 #[derive(Clone, Copy)]
 pub struct Tally {
     pub known: bool,

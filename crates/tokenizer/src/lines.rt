@@ -1,33 +1,36 @@
 // Lines: where they start, where they end, and their numbers.
-ghost use Rattle.std.specs.Prelude.{◌≡◌, ◌≤◌, ◌+◌, length, drop};
-ghost use Rattle.tokenizer.specs.Lines.{starts_lf, end_at, first_start, ends_line, starts_line, line_number};
+ghost use Rattle.std.specs.Prelude.{◌≡◌, ◌≤◌, ◌<◌, ◌+◌, length, drop};
+ghost use Rattle.tokenizer.specs.Lines.{starts_lf, end_at, line_end, first_start, ends_line, starts_line, line_number};
 ghost use Rattle.tokenizer.specs.Places.{first_point};
 
-use crate::event::Point;
+use crate::event::{LineStart, Point};
 
 // Whether a line feed stands at a place.
 pub fn starts_lf(s: &[u8], at: usize) -> bool
     ensures { result ≡ starts_lf (drop at s.now) }
 {
-    at < s.len() && s[at] == b'\n'
+    s.get(at) == Some(&b'\n')
 }
 
-// The length of the line end at a place, 0 at the sheet's end.
-pub fn line_end(s: &[u8], at: usize) -> u32
+// The length of the line end that begins at a place: 2 for a carriage return and a line feed.
+pub fn end_length(s: &[u8], at: usize) -> u32
+    requires { at < length s.now }
     ensures { result ≡ end_at (drop at s.now) }
 {
-    if s.len() <= at {
-        return 0;
-    }
-    if s[at] == b'\r' && starts_lf(s, at + 1) {
-        return 2;
-    }
-    1
+    1 + u32::from(s[at] == b'\r' && starts_lf(s, at + 1))
 }
 
-// The same at a point.
-pub fn end_at(s: &[u8], p: Point) -> u32
-    ensures { result ≡ end_at (drop p.index s.now) }
+// The length of the line end at a place, none at the sheet's end.
+pub fn line_end(s: &[u8], at: usize) -> Option<u32>
+    ensures { result ≡ line_end (drop at s.now) }
+{
+    s.get(at)?;
+    Some(end_length(s, at))
+}
+
+// The same at a point, whose place is named here once.
+pub fn end_at(s: &[u8], p: Point) -> Option<u32>
+    ensures { result ≡ line_end (drop p.index s.now) }
 {
     line_end(s, p.index as usize)
 }
@@ -57,10 +60,7 @@ pub fn first_start(s: &[u8]) -> usize
 pub fn first_point(s: &[u8]) -> Point
     ensures { result ≡ first_point s.now }
 {
-    Point {
-        index: first_start(s) as u32,
-        ..Point::start()
-    }
+    LineStart::first(s).point()
 }
 
 // Whether a line starts at an offset: at the first line's start, or behind a line end.

@@ -7,7 +7,7 @@ ghost use Rattle.tokenizer.specs.Moves.{rest_of, over_at, run_of, Inside};
 
 use crate::event::Point;
 use crate::kinds::Kind;
-use crate::text::Text;
+use crate::text::{Sheet, Text};
 
 // The point after the byte at a point.
 pub fn over(s: &[u8], p: Point) -> Point
@@ -17,9 +17,9 @@ pub fn over(s: &[u8], p: Point) -> Point
     p.over(s[p.index as usize])
 }
 
-impl Text<'_> {
-    // Where the bytes of the line end that a place lies in: kind 2 is that of the bytes 10 and 13. A `for` over the places cost 3 instructions
-    // a byte.
+impl<const MOST: usize> Text<'_, MOST> {
+    // Where the bytes of the line end that a place lies in: kind 2 is that of the bytes 10 and 13. With a `for` over the places a line
+    // without a table took 9.1 instructions a byte, with this loop 6.1.
     pub fn line_stop(&self, at: usize) -> usize
         ensures { result ≡ at + length (line_body (drop at self.now.bytes.now)) }
     {
@@ -30,7 +30,8 @@ impl Text<'_> {
         i
     }
 
-    // Where a run of bytes of one kind ends, from a place on, as fast as `line_stop` by the same form.
+    // Where a run of bytes of one kind ends, from a place on, with the loop of `line_stop`: by `for` in both the typical sheet took 116 instructions
+    // a byte, and 113 so.
     pub fn run_stop(&self, at: usize, k: Kind) -> usize
         requires { kind_number k ≡ 2 → ⊥ }
         ensures { result ≡ at + length (run_of (kind_in self.now.kinds.now) (kind_number k) (line_body (drop at self.now.bytes.now))) }
@@ -48,8 +49,10 @@ impl Text<'_> {
     {
         self.run_stop(at, Kind::Space)
     }
+}
 
-    // The end of a run of bytes of one kind.
+impl Sheet<'_> {
+    // The end of a run of bytes of one kind. It goes by points, and not to `run_stop`: each byte's column is counted on the way.
     pub fn run_end(&self, p: Point, k: Kind) -> Point
         requires { Inside self.now.bytes.now p × (kind_number k ≡ 2 → ⊥) }
         ensures { result ≡ past p (run_of (kind_in self.now.kinds.now) (kind_number k) (rest_of self.now.bytes.now p)) }
@@ -61,7 +64,7 @@ impl Text<'_> {
         q
     }
 
-    // The end of a run of spaces and tabs.
+    // The end of a run of spaces and tabs, by points as `run_end`.
     pub fn space_end(&self, p: Point) -> Point
         requires { Inside self.now.bytes.now p }
         ensures { result ≡ past p (indent (kind_in self.now.kinds.now) (rest_of self.now.bytes.now p)) }

@@ -24,8 +24,8 @@ pub fn space_ahead(f: Feed, left: usize) -> bool
     left != 0 && is_space(f.current)
 }
 
-// An attempt by value: the feed behind at least `min` and at most `max` units of whitespace, where there are so many. The feed moves by
-// units, so what is left of `max` is counted by hand.
+// An attempt by value: the feed behind at least `min` and at most `max` units of whitespace, where there are so many. What is left
+// of `max` and the feed are asked in one question, `space_ahead`, as the definition goes on by what is left.
 pub fn space_or_tab_attempt(s: &[u8], f: Feed, min: usize, max: usize) -> Option<Feed>
     requires { Reading s.now f }
     ensures { result ≡ attempt_of s.now min max f.point }
@@ -36,10 +36,7 @@ pub fn space_or_tab_attempt(s: &[u8], f: Feed, min: usize, max: usize) -> Option
         q = q.consume(s);
         left -= 1;
     }
-    if max - left < min {
-        return None;
-    }
-    Some(q)
+    (min <= max - left).then_some(q)
 }
 
 // The same with a feed that is lent: whether there are so many. If so it stands behind them, and else where it stood.

@@ -1,6 +1,6 @@
 // Why a call refused: the first question that was answered no.
 ghost use Rattle.std.specs.Prelude.{◌≡◌};
-ghost use Rattle.tokenizer.specs.Refusals.{refusal_number};
+ghost use Rattle.tokenizer.specs.Refusals.{refusal_number, answer_number};
 
 use std::error::Error;
 use std::fmt;
@@ -50,6 +50,16 @@ impl Refusal {
         ensures { result ≡ refusal_number self }
     {
         self as u8
+    }
+}
+
+// The number of an answer: 0, or the refusal's.
+pub fn answer_number<T>(answer: &Result<T, Refusal>) -> u8
+    ensures { result ≡ answer_number answer.now }
+{
+    match answer {
+        Ok(_) => 0,
+        Err(refusal) => refusal.number(),
     }
 }
 

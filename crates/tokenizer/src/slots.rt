@@ -1,10 +1,11 @@
 // Slots that are lent: an event is read or written, and slots of any type are cleared from a place on.
-ghost use Rattle.std.specs.Prelude.{◌≡◌, ◌<◌, set};
-ghost use Rattle.tokenizer.specs.Slots.{event_at, cleared, nowhere, slot_if, past_if};
+ghost use Rattle.std.specs.Prelude.{◌≡◌, ◌<◌, ◌+◌, ◌^◌, set};
+ghost use Rattle.tokenizer.specs.Slots.{event_at, cleared, wrote, past_if, event_if};
 
 use crate::event::Event;
 
-// The event at a place, or a blank one past the end.
+// The event at a place, or a blank one past the end. No `Option`: 01 has a record for no event, and each turn of the
+// resolver takes a record.
 pub fn at_or_blank(list: &[Event], i: usize) -> Event
     ensures { result ≡ event_at list.now i }
 {
@@ -20,31 +21,20 @@ pub fn put(slots: &mut [Event], i: usize, e: Event)
     }
 }
 
-// A place past every slot. No `Option`: `put` passes it over, so that writing a step has no branches.
-const NOWHERE: usize = 18446744073709551615;
-
-// The place of a slot that is written, or one past all slots where none is.
-pub fn slot_if(go: bool, i: usize) -> usize
-    ensures { result ≡ slot_if go i }
+// An event is written, or none; the next slot. No `Option` of the event: callers have the flag, and each would wrap what is unwrapped here at once.
+pub fn put_if(slots: &mut [Event], go: bool, i: usize, e: Event) -> usize
+    requires { i + 1 < 2 ^ 64 }
+    ensures { (result ≡ past_if go i) × (slots.new ≡ wrote i (event_if go e) slots.old) }
 {
     if go {
-        return i;
-    }
-    NOWHERE
-}
-
-// The place behind a slot that is written, or the same place where none is.
-pub fn past_if(go: bool, i: usize) -> usize
-    requires { i < nowhere }
-    ensures { result ≡ past_if go i }
-{
-    if go {
+        put(slots, i, e);
         return i + 1;
     }
     i
 }
 
-// The slots from a place on are made blank, and those before it stay.
+// The slots from a place on are made blank, and those before it stay. No `fill`: it requires a `clone` that cannot fail, and that a type is `Copy`
+// tells nothing of its `clone`.
 pub fn clear_from<T: Copy>(slots: &mut [T], n: usize, blank: T)
     ensures { slots.new ≡ cleared blank n slots.old }
 {

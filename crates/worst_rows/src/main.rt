@@ -23,7 +23,8 @@ fn as_head(out: &mut impl Write, sheet: &[u8], raw: &mut [Event]) -> io::Result<
     Ok(answer.map_or(0, |c| c.events))
 }
 
-// A sheet read as a row, likewise.
+// A sheet read as a row, likewise. Two, as `head` and `row` are: a function for both takes an array of any length and passes it on twice, which
+// the check of what is lent does not cover.
 fn as_row(out: &mut impl Write, sheet: &[u8], raw: &mut [Event]) -> io::Result<usize> {
     let answer = row(sheet, 0, false, raw);
     print::number(out, answer.map(<[usize; 2]>::from))?;
@@ -41,6 +42,7 @@ fn line<W: Write, F: Fn(&mut W, &[u8], &mut [Event]) -> io::Result<usize>>(
     requires lent { n ≤ MOST }
     requires callable { F.IsAlwaysCallable read }
 {
+    // An array of a fixed size: the project has no heap.
     let mut raw = [Event::BLANK; MOST];
     let slots = &mut raw[..n];
     let events = read(out, sheet, slots)?;
@@ -62,6 +64,7 @@ fn lines<W: Write, F: Fn(&mut W, &[u8], &mut [Event]) -> io::Result<usize>>(
 
 // Two bytes in turn as a head line.
 fn worst_head(out: &mut impl Write, pair: &[u8; 2]) -> io::Result<()> {
+    // An array of a fixed size: the project has no heap.
     let mut text = [0u8; 65536];
     let sheet = &mut text[..];
     repeat(&mut sheet[..65533], pair);
@@ -71,6 +74,7 @@ fn worst_head(out: &mut impl Write, pair: &[u8; 2]) -> io::Result<()> {
 
 // Two bytes in turn as a delimiter row.
 fn worst_delimiter(out: &mut impl Write, pair: &[u8; 2]) -> io::Result<()> {
+    // An array of a fixed size: the project has no heap.
     let mut text = [0u8; 65536];
     let sheet = &mut text[..];
     sheet[..4].copy_from_slice(b"a|b\n");
@@ -80,6 +84,7 @@ fn worst_delimiter(out: &mut impl Write, pair: &[u8; 2]) -> io::Result<()> {
 
 // Two bytes in turn as a body row.
 fn worst_row(out: &mut impl Write, pair: &[u8; 2]) -> io::Result<()> {
+    // An array of a fixed size: the project has no heap.
     let mut sheet = [0u8; 65536];
     repeat(&mut sheet, pair);
     lines(out, &sheet, as_row)
@@ -87,6 +92,7 @@ fn worst_row(out: &mut impl Write, pair: &[u8; 2]) -> io::Result<()> {
 
 // As many columns as fit, in both lines of a head.
 fn columns(out: &mut impl Write) -> io::Result<()> {
+    // An array of a fixed size: the project has no heap.
     let mut text = [b' '; 65536];
     let sheet = &mut text[..];
     repeat(&mut sheet[..32766], b"a|");
@@ -97,6 +103,7 @@ fn columns(out: &mut impl Write) -> io::Result<()> {
 
 // One byte too many.
 fn too_long(out: &mut impl Write) -> io::Result<()> {
+    // An array of a fixed size: the project has no heap.
     let sheet = [b'|'; 65537];
     line(out, &sheet, MOST, as_head)?;
     line(out, &sheet, MOST, as_row)

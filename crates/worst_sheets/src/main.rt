@@ -15,13 +15,13 @@ use tokenizer::kinds::builtin;
 use tokenizer::slots::at_or_blank;
 
 // The pseudo-random number after one.
-fn random(x: u64) -> u64 {
-    x % 4294967296 * 1664525 % 4294967296 + 1013904223
+fn random(x: u32) -> u32 {
+    x.wrapping_mul(1664525).wrapping_add(1013904223)
 }
 
 // Pseudo-random bytes of a pattern of eight.
 fn scatter(text: &mut [u8], pattern: &[u8; 8]) {
-    let mut x: u64 = 1;
+    let mut x: u32 = 1;
     for b in text.iter_mut() {
         x = random(x);
         *b = pattern[(x / 65536 % 8) as usize];
@@ -35,6 +35,7 @@ fn line(out: &mut impl Write, text: &[u8], n: usize, m: usize, k: usize) -> io::
     requires results { m ≤ 196608 }
     requires alignments { k ≤ 10240 }
 {
+    // An array of a fixed size: the project has no heap.
     let mut raw = [Event::BLANK; 98304];
     let mut results = [Event::BLANK; 196608];
     let mut alignments = [0u8; 10240];
@@ -60,6 +61,7 @@ fn over(out: &mut impl Write, to: usize, pattern: &[u8]) -> io::Result<()>
     requires to { to ≤ 65536 }
     requires pattern { 0 < length pattern.now }
 {
+    // An array of a fixed size: the project has no heap.
     let mut text = [b'\n'; 65536];
     repeat(&mut text[..to], pattern);
     lines(out, &text)
@@ -71,6 +73,7 @@ fn under(out: &mut impl Write, to: usize, pattern: &[u8]) -> io::Result<()>
     requires to { to ≤ 65536 }
     requires pattern { 0 < length pattern.now }
 {
+    // An array of a fixed size: the project has no heap.
     let mut text = [b'\n'; 65536];
     repeat(&mut text[..10], b"a|b\n:-|-:\n");
     repeat(&mut text[10..to], pattern);
@@ -79,6 +82,7 @@ fn under(out: &mut impl Write, to: usize, pattern: &[u8]) -> io::Result<()>
 
 // A table of 10,000 columns.
 fn columns(out: &mut impl Write) -> io::Result<()> {
+    // An array of a fixed size: the project has no heap.
     let mut text = [b'\n'; 65536];
     repeat(&mut text[..20000], b"a|");
     repeat(&mut text[20001..40001], b"-|");
@@ -89,6 +93,7 @@ fn columns(out: &mut impl Write) -> io::Result<()> {
 fn scattered(out: &mut impl Write, to: usize, pattern: &[u8; 8]) -> io::Result<()>
     requires { to ≤ 65536 }
 {
+    // An array of a fixed size: the project has no heap.
     let mut text = [b'\n'; 65536];
     scatter(&mut text[..to], pattern);
     lines(out, &text)
@@ -104,6 +109,7 @@ fn short_lines(out: &mut impl Write, text: &[u8; 65536]) -> io::Result<()> {
 
 // A thousand tables.
 fn lacking(out: &mut impl Write) -> io::Result<()> {
+    // An array of a fixed size: the project has no heap.
     let mut text = [b'\n'; 65536];
     repeat(&mut text[..6000], b"a\n:-\n\n");
     short_lines(out, &text)
@@ -111,6 +117,7 @@ fn lacking(out: &mut impl Write) -> io::Result<()> {
 
 // One byte too many.
 fn too_long(out: &mut impl Write) -> io::Result<()> {
+    // An array of a fixed size: the project has no heap.
     let text = [b'|'; 65537];
     line(out, &text, 98304, 196608, 10240)
 }

@@ -4,6 +4,8 @@ use Prim.Native.Nat.{ℕ}
 use mathlib.Core.Path.{◌≡◌, ap, sym, ◌∙◌}
 use mathlib.Core.Bool.{Bool, ◌||◌}
 use mathlib.Core.List.{List}
+use native.Mathlib.Omega.{arith}
+use Rattle.std.proofs.Common.{rules}
 use lib.ListN.{length}
 use Rattle.std.specs.Prelude.{Result}
 use Rattle.tokenizer.specs.declared.refusal.Refusal.{Refusal}
@@ -26,7 +28,7 @@ planned : {r : Result (Plan HeadCounts) Refusal} {ks : List ℕ} {z w : Bool} (s
 planned {w = w} s at on n e f h = h ∙ rw (e, f) (ap (λ (k : ℕ → ℕ). head_plan k s at on w n) built_is)
 
 pub invariant_of-text : goal.invariant_of-text
-invariant_of-text c = record { passes = rw c.builtin-kinds.ensures built_passes }
+invariant_of-text c = record { passes = rw c.builtin-kinds.ensures built_passes; fits = search rules }
 
 pub fill-requires : goal.fill-requires
 fill-requires c =
@@ -34,7 +36,7 @@ fill-requires c =
     let n = length a.raw.now in
     let z : c.if-lazy.stray ≡ (a.lazy || a.pierced) = elim c.if-lazy.branch [ then-lazy w ↦ rw (w.stray-is, w.if-lazy.true) | else-lazy w ↦ rw (w.stray-is, w.if-lazy.false) ] in
     let p = ok-answered _ (record { answer = head_counts kind_of a.sheet.now a.offset a.code_indented (a.lazy || a.pierced) n; cursor = Begin (point_at a.sheet.now a.offset) }) _ (planned a.sheet.now a.offset a.code_indented n c.builtin-kinds.ensures z c.in-Ok.ensures) in
-    rw p.0 (head-good built a.sheet.now a.offset a.code_indented (a.lazy || a.pierced) n p.1)
+    rw p.0 (omega arith, head-good built a.sheet.now a.offset a.code_indented (a.lazy || a.pierced) n p.1)
 
 pub returns-in-Ok : goal.returns-in-Ok
 returns-in-Ok c =

@@ -4,6 +4,8 @@ use Prim.Native.Nat.{ℕ}
 use mathlib.Core.Path.{◌≡◌, ap, sym, ◌∙◌}
 use mathlib.Core.Bool.{Bool}
 use mathlib.Core.List.{List}
+use native.Mathlib.Omega.{arith}
+use Rattle.std.proofs.Common.{rules}
 use lib.ListN.{length}
 use Rattle.std.specs.Prelude.{Result}
 use Rattle.tokenizer.specs.declared.refusal.Refusal.{Refusal}
@@ -26,14 +28,14 @@ planned : {r : Result (Plan RowCounts) Refusal} {ks : List ℕ} (s : List ℕ) (
 planned {r = r} s at lazy n e h = h ∙ rw e (ap (λ (k : ℕ → ℕ). row_plan k s at lazy n) built_is)
 
 pub invariant_of-text : goal.invariant_of-text
-invariant_of-text c = record { passes = rw c.builtin-kinds.ensures built_passes }
+invariant_of-text c = record { passes = rw c.builtin-kinds.ensures built_passes; fits = search rules }
 
 pub fill-requires : goal.fill-requires
 fill-requires c =
     let a = c.args in
     let n = length a.raw.now in
     let p = ok-answered _ (record { answer = row_counts kind_of a.sheet.now a.offset a.lazy n; cursor = Enter Body (point_at a.sheet.now a.offset) }) _ (planned a.sheet.now a.offset a.lazy n c.builtin-kinds.ensures c.in-Ok.ensures) in
-    rw p.0 (row-good built a.sheet.now a.offset a.lazy n p.1)
+    rw p.0 (omega arith, row-good built a.sheet.now a.offset a.lazy n p.1)
 
 pub returns-in-Ok : goal.returns-in-Ok
 returns-in-Ok c =

@@ -2,12 +2,10 @@
 -- Assumes nothing.
 use mathlib.Core.Path.{sym, ap, ◌∙◌}
 use mathlib.Core.List.{List}
-use Prim.Native.Nat.{◌<◌, ◌^◌}
 use native.Mathlib.Omega.{arith}
-use lib.ListN.{length}
 use Rattle.tokenizer.specs.declared.event.Event.{Event}
 use Rattle.gfm_table.specs.declared.rows.Reached.{Reached}
-use Rattle.edit_map.proofs.CellRows.{room-few, slot_few, goes, stops, opening}
+use Rattle.edit_map.proofs.CellRows.{slot_few, goes, stops, opening}
 use Rattle.edit_map.proofs.cell_rows.write_cells.Goals as goal
 
 pub loop-x-init : goal.loop-x-init
@@ -19,14 +17,8 @@ loop-x-init g c =
       opening t.passes.reads t.bytes.now g.R.RowKind.part from.line from.at c.args.to c.args.slots.now c.requires.0,
     )
 
-pub slots-requires : goal.slots-requires
-slots-requires g c =
-    let t = c.args.text.now in
-    let l = c.loop-x in
-    slot_few t.passes.reads t.bytes.now g.R.RowKind.part c.args.from.line l.w c.in-Some.x l.invariant.0 (sym c.in-Some.ensures)
-
-pub behind-w-requires : goal.behind-w-requires
-behind-w-requires g c =
+pub put_step-next-requires : goal.put_step-next-requires
+put_step-next-requires g c =
     let t = c.args.text.now in
     let l = c.loop-x in
     slot_few t.passes.reads t.bytes.now g.R.RowKind.part c.args.from.line l.w c.in-Some.x l.invariant.0 (sym c.in-Some.ensures)
@@ -43,15 +35,14 @@ loop-x-preserved g c =
     let t = c.args.text.now in
     let l = c.loop-x in
     let turn = goes t.passes.reads t.bytes.now g.R.RowKind.part c.args.from.line l.w c.in-Some.x l.invariant.0 (sym c.in-Some.ensures) in
-    let fewer : length l.slots < 2 ^ 64 = omega (arith, l.auto.slots) in
-    rw (c.behind-w.ensures, c.put_step.ensures, c.slots.ensures, c.part-part.ensures) (turn.good, l.invariant.1 ∙ turn.more l.slots (room-few _ fewer))
+    rw (c.behind-w.ensures, c.put_step-next.ensures.0, c.put_step-next.ensures.1, c.part-part.ensures) (turn.good, l.invariant.1 ∙ turn.more l.slots)
 
 pub returns : goal.returns
 returns g c =
     let t = c.args.text.now in
     let l = c.loop-x in
     let m = l.invariant.1 ∙ stops t.passes.reads t.bytes.now g.R.RowKind.part c.args.from.line l.w l.slots l.invariant.0 (sym c.in_default.ensures) in
-    rw (c.reached.ensures, c.put-2.ensures, c.exit.ensures, c.cell_name-2.ensures, c.part-part.ensures) (
+    rw (c.reached.ensures, c.put-2.ensures, c.exit.ensures, c.new-end.ensures, c.cell_name-2.ensures, c.part-part.ensures) (
       sym (ap (λ (w : Reached × List Event). w.0) m),
       sym (ap (λ (w : Reached × List Event). w.1) m),
     )

@@ -1,5 +1,5 @@
 -- The edits as they are, and the test that an edit removes no more than the list has.
-use Rattle.edit_order.specs.EditMarks.{lean}
+use Rattle.edit_order.proofs.EditMarks.{lean}
 use Rattle.edit_order.proofs.edit_fits.fits.Given as goal
 
 abbrev pub ghost-in_order : goal.ghost-in_order

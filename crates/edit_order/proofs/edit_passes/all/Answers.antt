@@ -1,15 +1,13 @@
--- `edit_passes::all` meets its contract.
+-- `edit_passes::all` meets its contract: the groups of five are the edits.
 -- Assumes nothing.
-use Rattle.std.proofs.Common.{sym, ◌∙◌, arith}
-use Rattle.edit_order.proofs.EditPassing.{pass_on, pass_off, pass_end}
+use Rattle.std.proofs.Common.{rules, of_calls, ◌∙◌}
+use Rattle.std.proofs.lemmas.Iterator.{YieldsList-from_slice}
+use Rattle.std.proofs.lemmas.Iterator.Search.{all_from_yields_List}
+use Rattle.edit_order.specs.EditFives.{edit_of}
+use Rattle.edit_order.proofs.EditPassing.{passes}
 use Rattle.edit_order.proofs.edit_passes.all.Goals as goal
 
-pub returns-then-not-test : goal.returns-then-not-test
-returns-then-not-test g c =
-    sym (pass_off _ _ _ c.loop-i.invariant (omega arith) _ c.get.ensures (sym (c.requires.1.1 _ _ c.test.ensures) ∙ c.if-not-test.true))
-
-pub loop-i-preserved : goal.loop-i-preserved
-loop-i-preserved g c = pass_on _ _ _ c.loop-i.invariant (omega arith) _ c.get.ensures (sym (c.requires.1.1 _ _ c.test.ensures) ∙ c.if-not-test.false)
-
 pub returns : goal.returns
-returns g c = sym (pass_end _ _ _ c.loop-i.invariant (omega arith))
+returns g c =
+    all_from_yields_List (λ x. g.says (edit_of x)) _ _ c.all.result c.all.ensures.ran (YieldsList-from_slice _ c.iter.ensures.rest) (λ x b q k. search (rules, of_calls, c.requires.1.1))
+    ∙ passes g.says _ _ c.groups.ensures

@@ -1,11 +1,12 @@
 -- `permits_at` meets its contract: whitespace ends within 3 units where its bytes lead to the column 4 at most.
 -- Assumes nothing.
-use mathlib.Core.Path.{refl, ◌∙◌}
+use mathlib.Core.Path.{refl, ap, ◌∙◌}
 use lib.ListN.{drop}
 use Rattle.tokenizer.specs.declared.kinds.Kind.TheVariants.{Space}
 use Rattle.tokenizer.specs.Bytes.{kind_in}
 use Rattle.tokenizer.specs.Points.{column_past}
 use Rattle.tokenizer.specs.Lines.{line_body}
+use Rattle.tokenizer.specs.Spaces.{space_ends}
 use Rattle.tokenizer.proofs.Ahead.{run_stops}
 use Rattle.tokenizer.proofs.Runs.{indent_run}
 use Rattle.tokenizer.proofs.SameKinds.{other_number}
@@ -17,7 +18,7 @@ use Rattle.gfm_table.proofs.delimiter.permits_at.Goals.{else-on-via-then-on+else
 pub returns-then-eq : goal.returns-then-eq
 returns-then-eq c =
     let t = c.args.text.now in
-    rw c.if-on.true (c.space_ends.ensures ∙ ends-within t.passes.reads t.bytes.now 3 (point_in 1 c.args.at 1) refl)
+    rw c.if-on.true (c.space_ends.ensures ∙ ap (space_ends t.bytes.now 3) c.point.ensures ∙ ends-within t.passes.reads t.bytes.now 3 (point_in 1 c.args.at 1) refl)
 
 pub returns : goal.returns
 unfolding column_past

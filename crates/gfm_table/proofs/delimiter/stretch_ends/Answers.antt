@@ -11,7 +11,7 @@ use Rattle.gfm_table.proofs.Delimiters.{ends_two, ends-front}
 use Rattle.gfm_table.proofs.delimiter.stretch_ends.Goals as goal
 
 pub returns-in-End : goal.returns-in-End
-returns-in-End c =
+returns-in-End g c =
     let t = c.args.text.now in
     let i = c.args.p.index in
     ⊎_elim
@@ -20,7 +20,7 @@ returns-in-End c =
     c.in-End.is
 
 pub returns-in_default : goal.returns-in_default
-returns-in_default c =
+returns-in_default g c =
     let t = c.args.text.now in
     let k = c.ahead.result in
     sym (ne_eqb _ 3 (apart_kinds k Pipe c.in_default.not-Pipe)) ∙ ends-front t.passes.reads t.bytes.now c.args.p.index _ (front t.passes.reads t.bytes.now c.args.p.index k c.ahead.ensures c.in_default.not-End)

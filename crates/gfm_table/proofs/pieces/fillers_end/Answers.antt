@@ -13,13 +13,13 @@ use Rattle.gfm_table.proofs.Marks.{fillers_more}
 use Rattle.gfm_table.proofs.pieces.fillers_end.Goals as goal
 
 pub returns-in-Space : goal.returns-in-Space
-returns-in-Space c =
+returns-in-Space g c =
     let t = c.args.text.now in
     let e = ap length (fillers_stop t.passes.reads (drop c.loop-i.i t.bytes.now) (rw (← c.kind_at.ensures) (stop_kind c.kind_at.result c.in-Space.is))) in
     omega (arith, e, c.loop-i.invariant.1)
 
 pub loop-i-preserved : goal.loop-i-preserved
-loop-i-preserved c =
+loop-i-preserved g c =
     let t = c.args.text.now in
     let o = c.in_default in
     let f = front t.passes.reads t.bytes.now c.loop-i.i c.kind_at.result c.kind_at.ensures o.not-End in
@@ -28,7 +28,7 @@ loop-i-preserved c =
 
 pub returns : goal.returns
 unfolding filler_run
-returns c =
+returns g c =
     let t = c.args.text.now in
     let e = ap length (ap (filler_run (kind_in t.kinds.now)) (past_last t.bytes.now c.loop-i.i c.loop-i-test.false)) in
     omega (arith, e, c.loop-i.invariant.1, c.max.ensures)

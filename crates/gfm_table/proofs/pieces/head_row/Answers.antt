@@ -43,7 +43,7 @@ overflow_add-size c =
     let l = c.loop-i in
     let f = front_at t.passes.reads t.bytes.now l.i c.kind_at-in-loop-i.result c.kind_at-in-loop-i.ensures Pipe c.in-Pipe.is (λ z. omega arith) in
     let m : PastPiece (kind_in t.kinds.now) t.bytes.now l.i (l.i + 1) 10 = passes_divider t.passes.reads _ _ _ f refl in
-    record { fits = omega (arith, c.from-size.ensures, bool-one l.seen, cells_fewer t.passes.reads _ _ _ 10 refl m l.seen, l.invariant.0, cells-few t.passes.reads t.bytes.now c.args.at c.requires.0 c.requires.1 c.ne-seen.result) }
+    record { fits = omega (arith, c.from-size.ensures, bool-one l.seen, cells_fewer t.passes.reads _ _ _ 10 refl m l.seen, l.invariant.0, cells-few t.passes.reads t.bytes.now c.args.at c.args.text.now.fits c.requires c.ne-seen.result) }
 
 pub overflow_add-size_b : goal.overflow_add-size_b
 overflow_add-size_b c =
@@ -51,7 +51,7 @@ overflow_add-size_b c =
     let l = c.loop-i in
     let f = front_at t.passes.reads t.bytes.now l.i c.kind_at-in-loop-i.result c.kind_at-in-loop-i.ensures Pipe c.in-Pipe.is (λ z. omega arith) in
     let m : PastPiece (kind_in t.kinds.now) t.bytes.now l.i (l.i + 1) 10 = passes_divider t.passes.reads _ _ _ f refl in
-    record { fits = omega (arith, few-one c.ne-seen.result _ (c.from-size_b.ensures ∙ bool-one c.ne-seen.result), solid_fewer t.passes.reads _ _ _ 10 refl m, l.invariant.1, solids-few t.passes.reads t.bytes.now c.args.at c.requires.0 c.requires.1) }
+    record { fits = omega (arith, few-one c.ne-seen.result _ (c.from-size_b.ensures ∙ bool-one c.ne-seen.result), solid_fewer t.passes.reads _ _ _ 10 refl m, l.invariant.1, solids-few t.passes.reads t.bytes.now c.args.at c.args.text.now.fits c.requires) }
 
 pub loop-i-preserved-in-Pipe : goal.loop-i-preserved-in-Pipe
 loop-i-preserved-in-Pipe c =
@@ -72,7 +72,7 @@ overflow_add-size-in_default c =
     let l = c.loop-i in
     let o = c.in_default in
     let m = data_passed t.passes.reads t.bytes.now l.i _ c.kind_at-in-loop-i.result c.kind_at-in-loop-i.ensures o.not-Space o.not-End o.not-Pipe c.text_end-i.ensures in
-    record { fits = omega (arith, c.from-size-in_default.ensures, bool-one l.seen, cells_fewer t.passes.reads _ _ _ 3 refl m l.seen, l.invariant.0, cells-few t.passes.reads t.bytes.now c.args.at c.requires.0 c.requires.1 c.ne-seen.result) }
+    record { fits = omega (arith, c.from-size-in_default.ensures, bool-one l.seen, cells_fewer t.passes.reads _ _ _ 3 refl m l.seen, l.invariant.0, cells-few t.passes.reads t.bytes.now c.args.at c.args.text.now.fits c.requires c.ne-seen.result) }
 
 pub overflow_add-size_b-in_default : goal.overflow_add-size_b-in_default
 overflow_add-size_b-in_default c =
@@ -80,7 +80,7 @@ overflow_add-size_b-in_default c =
     let l = c.loop-i in
     let o = c.in_default in
     let m = data_passed t.passes.reads t.bytes.now l.i _ c.kind_at-in-loop-i.result c.kind_at-in-loop-i.ensures o.not-Space o.not-End o.not-Pipe c.text_end-i.ensures in
-    record { fits = omega (arith, few-one c.ne-seen.result _ (c.from-size_b.ensures ∙ bool-one c.ne-seen.result), solid_fewer t.passes.reads _ _ _ 3 refl m, l.invariant.1, solids-few t.passes.reads t.bytes.now c.args.at c.requires.0 c.requires.1) }
+    record { fits = omega (arith, few-one c.ne-seen.result _ (c.from-size_b.ensures ∙ bool-one c.ne-seen.result), solid_fewer t.passes.reads _ _ _ 3 refl m, l.invariant.1, solids-few t.passes.reads t.bytes.now c.args.at c.args.text.now.fits c.requires) }
 
 pub loop-i-smaller : goal.loop-i-smaller
 loop-i-smaller c =

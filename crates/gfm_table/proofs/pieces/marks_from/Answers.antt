@@ -21,14 +21,14 @@ overflow_add-n c =
     let a = c.args in
     let t = a.text.now in
     let f = front_at t.passes.reads t.bytes.now c.loop-i.i c.kind_at.result c.kind_at.ensures Space c.in-Space.is (λ z. omega arith) in
-    let m = passes_space t.passes.reads _ _ _ 1 f c.requires.0 refl c.space_stop-i.ensures in
-    record { fits = omega (arith, m.fewer, c.loop-i.invariant, marks-few t.passes.reads t.bytes.now a.at c.requires.0 c.requires.1) }
+    let m = passes_space t.passes.reads _ _ _ 1 f c.args.text.now.fits refl c.space_stop-i.ensures in
+    record { fits = omega (arith, m.fewer, c.loop-i.invariant, marks-few t.passes.reads t.bytes.now a.at c.args.text.now.fits c.requires) }
 
 pub loop-i-preserved-in-Space : goal.loop-i-preserved-in-Space
 loop-i-preserved-in-Space c =
     let t = c.args.text.now in
     let f = front_at t.passes.reads t.bytes.now c.loop-i.i c.kind_at.result c.kind_at.ensures Space c.in-Space.is (λ z. omega arith) in
-    let m = passes_space t.passes.reads _ _ _ 1 f c.requires.0 refl c.space_stop-i.ensures in
+    let m = passes_space t.passes.reads _ _ _ 1 f c.args.text.now.fits refl c.space_stop-i.ensures in
     omega (arith, m.fewer, c.loop-i.invariant)
 
 pub returns-in-End : goal.returns-in-End
@@ -44,13 +44,13 @@ pub overflow_add-n-in-Pipe : goal.overflow_add-n-in-Pipe
 overflow_add-n-in-Pipe c =
     let a = c.args in
     let t = a.text.now in
-    let m = alone t.passes.reads t.bytes.now c.loop-i.i c.kind_at.result c.kind_at.ensures c.in-Pipe.is c.requires.0 in
-    record { fits = omega (arith, m.fewer, c.loop-i.invariant, marks-few t.passes.reads t.bytes.now a.at c.requires.0 c.requires.1) }
+    let m = alone t.passes.reads t.bytes.now c.loop-i.i c.kind_at.result c.kind_at.ensures c.in-Pipe.is c.args.text.now.fits in
+    record { fits = omega (arith, m.fewer, c.loop-i.invariant, marks-few t.passes.reads t.bytes.now a.at c.args.text.now.fits c.requires) }
 
 pub loop-i-preserved-in-Pipe : goal.loop-i-preserved-in-Pipe
 loop-i-preserved-in-Pipe c =
     let t = c.args.text.now in
-    let m = alone t.passes.reads t.bytes.now c.loop-i.i c.kind_at.result c.kind_at.ensures c.in-Pipe.is c.requires.0 in
+    let m = alone t.passes.reads t.bytes.now c.loop-i.i c.kind_at.result c.kind_at.ensures c.in-Pipe.is c.args.text.now.fits in
     omega (arith, m.fewer, c.loop-i.invariant)
 
 -- a run of fillers
@@ -64,20 +64,20 @@ overflow_add-n-in_default c =
     let a = c.args in
     let t = a.text.now in
     let o = c.in_default in
-    let m = filled t.passes.reads t.bytes.now c.loop-i.i _ c.kind_at.result c.kind_at.ensures o.not-Space o.not-End o.not-Pipe o.not-Colon c.requires.0 c.fillers_end-i.ensures in
-    record { fits = omega (arith, m.fewer, c.loop-i.invariant, marks-few t.passes.reads t.bytes.now a.at c.requires.0 c.requires.1) }
+    let m = filled t.passes.reads t.bytes.now c.loop-i.i _ c.kind_at.result c.kind_at.ensures o.not-Space o.not-End o.not-Pipe o.not-Colon c.args.text.now.fits c.fillers_end-i.ensures in
+    record { fits = omega (arith, m.fewer, c.loop-i.invariant, marks-few t.passes.reads t.bytes.now a.at c.args.text.now.fits c.requires) }
 
 pub loop-i-smaller : goal.loop-i-smaller
 loop-i-smaller c =
     let t = c.args.text.now in
     let o = c.in_default in
     let f = front t.passes.reads t.bytes.now c.loop-i.i c.kind_at.result c.kind_at.ensures o.not-End in
-    let m = filled t.passes.reads t.bytes.now c.loop-i.i _ c.kind_at.result c.kind_at.ensures o.not-Space o.not-End o.not-Pipe o.not-Colon c.requires.0 c.fillers_end-i.ensures in
+    let m = filled t.passes.reads t.bytes.now c.loop-i.i _ c.kind_at.result c.kind_at.ensures o.not-Space o.not-End o.not-Pipe o.not-Colon c.args.text.now.fits c.fillers_end-i.ensures in
     omega (arith, f.below, m.onward)
 
 pub loop-i-preserved : goal.loop-i-preserved
 loop-i-preserved c =
     let t = c.args.text.now in
     let o = c.in_default in
-    let m = filled t.passes.reads t.bytes.now c.loop-i.i _ c.kind_at.result c.kind_at.ensures o.not-Space o.not-End o.not-Pipe o.not-Colon c.requires.0 c.fillers_end-i.ensures in
+    let m = filled t.passes.reads t.bytes.now c.loop-i.i _ c.kind_at.result c.kind_at.ensures o.not-Space o.not-End o.not-Pipe o.not-Colon c.args.text.now.fits c.fillers_end-i.ensures in
     omega (arith, m.fewer, c.loop-i.invariant)

@@ -9,9 +9,9 @@ use Rattle.gfm_table.proofs.Passing.{line_from}
 use Rattle.gfm_table.proofs.pieces.text_end.Given as goal
 
 abbrev pub invariant-loop-i : goal.invariant-loop-i
-invariant-loop-i l =
+invariant-loop-i g l =
     let run = λ (i : _). length (data_run (kind_in l.text.kinds.now) false (line_from l.text.bytes.now i)) in
     l.i + run l.i ≡ l.initial.i + run l.initial.i
 
 abbrev pub decreases-loop-i : goal.decreases-loop-i
-decreases-loop-i l = length l.text.bytes.now - l.i
+decreases-loop-i g l = length l.text.bytes.now - l.i

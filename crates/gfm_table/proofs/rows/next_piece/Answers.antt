@@ -16,20 +16,20 @@ pub returns-in-Space : goal.returns-in-Space
 returns-in-Space g c =
     let a = c.args in
     let t = a.text.now in
-    let i = inside-at t.bytes.now a.at a.column c.requires in
-    let e = first-space t.passes.reads t.bytes.now (point_in 0 a.at a.column) i g.R.RowKind.part (sym c.in-Space.ensures) in
+    let i = inside-at t.bytes.now a.from.at a.from.column (t.fits, c.requires.0, c.requires.1) in
+    let e = first-space t.passes.reads t.bytes.now (point_in 0 a.from.at a.from.column) i g.R.RowKind.part (sym c.in-Space.ensures) in
     rw e (ap Some (λ k. record { name = SpaceOrTab; end = c.spaces_past-stop.ensures.0 k; column = c.spaces_past-stop.ensures.1 k }))
 
 pub returns-in-End : goal.returns-in-End
 returns-in-End g c =
     let t = c.args.text.now in
-    rw (ap (pieces_of _ g.R.RowKind.part) (ends t.passes.reads (drop c.args.at t.bytes.now) (sym c.in-End.ensures)) ∙ no_pieces t.passes.reads g.R.RowKind.part)
+    rw (ap (pieces_of _ g.R.RowKind.part) (ends t.passes.reads (drop c.args.from.at t.bytes.now) (sym c.in-End.ensures)) ∙ no_pieces t.passes.reads g.R.RowKind.part)
 
 pub returns-in-Pipe : goal.returns-in-Pipe
 returns-in-Pipe g c =
     let a = c.args in
     let t = a.text.now in
-    let i = inside-at t.bytes.now a.at a.column c.requires in
-    let f = goes t.passes.reads t.bytes.now a.at 3 c.in-Pipe.ensures (λ z. omega arith) in
-    rw (first-divider t.passes.reads t.bytes.now (point_in 0 a.at a.column) i g.R.RowKind.part (sym c.in-Pipe.ensures))
-    (ap Some (flat-placed _ GfmTableCellDivider a.at _ a.column _ c.flat.ensures refl (byte-column t.passes.reads _ a.column (λ z. omega (arith, f.is, z)))))
+    let i = inside-at t.bytes.now a.from.at a.from.column (t.fits, c.requires.0, c.requires.1) in
+    let f = goes t.passes.reads t.bytes.now a.from.at 3 c.in-Pipe.ensures (λ z. omega arith) in
+    rw (first-divider t.passes.reads t.bytes.now (point_in 0 a.from.at a.from.column) i g.R.RowKind.part (sym c.in-Pipe.ensures))
+    (ap Some (flat-placed _ GfmTableCellDivider a.from.at _ a.from.column _ c.flat.ensures refl (byte-column t.passes.reads _ a.from.column (λ z. omega (arith, f.is, z)))))

@@ -10,4 +10,4 @@ use Rattle.gfm_table.proofs.rows.spaces_past.Given as goal
 abbrev pub invariant-loop-i : goal.invariant-loop-i
 invariant-loop-i l =
     let run = run_end (indent (kind_in l.text.kinds.now)) l.text.bytes.now in
-    Inside l.text.bytes.now (point_in 0 l.i l.c) × (run (point_in 0 l.i l.c) ≡ run (point_in 0 l.at l.fn.column))
+    Inside l.text.bytes.now (point_in 0 l.i l.c) × (run (point_in 0 l.i l.c) ≡ run (point_in 0 l.fn.from.at l.fn.from.column))

@@ -18,8 +18,8 @@ overflow_cast-index c =
     let e = c.text_end-index.ensures in
     record { fits = omega (arith, e, h.within, h.short) }
 
-pub overflow_add-result : goal.overflow_add-result
-overflow_add-result c =
+pub overflow_add-column : goal.overflow_add-column
+overflow_add-column c =
     let h = inside-end (data_run (kind_in c.args.text.now.kinds.now) false) (data_rest (kind_in c.args.text.now.kinds.now) false) (data_split (kind_in c.args.text.now.kinds.now) false) c.args.text.now.bytes.now c.args.p c.requires in
     let e = c.text_end-index.ensures in
     let i = c.requires in
@@ -32,4 +32,4 @@ returns c =
     let u = rest_of c.args.text.now.bytes.now c.args.p in
     let e = c.text_end-index.ensures in
     let m : c.text_end-index.result - c.args.p.index ≡ length (data_run (kind_in c.args.text.now.kinds.now) false u) = omega (arith, e) in
-    rw (data_columns c.args.text.now.passes.reads false u c.args.p.column, m, e)
+    rw (c.new.ensures, data_columns c.args.text.now.passes.reads false u c.args.p.column, m, e)

@@ -7,12 +7,12 @@ use Rattle.gfm_table.proofs.states.row_end.Goals as goal
 
 pub loop-t-smaller : goal.loop-t-smaller
 loop-t-smaller c =
-    let h = rw c.in-Paused.is at c.row_break.ensures in
+    let h = rw c.in-Continue.is at c.row_break.ensures in
     let g = h.good in
     omega (arith, paused_count c.args.text.now.passes.reads _ _ _ 64 h, g.few, g.inside.within)
 
 pub loop-t-preserved : goal.loop-t-preserved
-loop-t-preserved c = let h = rw c.in-Paused.is at c.row_break.ensures in (h.good, paused_whole c.args.text.now.passes.reads _ _ _ 64 h ∙ c.loop-t.invariant.1)
+loop-t-preserved c = let h = rw c.in-Continue.is at c.row_break.ensures in (h.good, paused_whole c.args.text.now.passes.reads _ _ _ 64 h ∙ c.loop-t.invariant.1)
 
-pub returns-in-Ended : goal.returns-in-Ended
-returns-in-Ended c = ended-whole c.args.text.now.passes.reads _ _ _ 64 (rw c.in-Ended.is at c.row_break.ensures) ∙ c.loop-t.invariant.1
+pub returns-in-Break : goal.returns-in-Break
+returns-in-Break c = ended-whole c.args.text.now.passes.reads _ _ _ 64 (rw c.in-Break.is at c.row_break.ensures) ∙ c.loop-t.invariant.1

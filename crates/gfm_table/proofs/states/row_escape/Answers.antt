@@ -12,7 +12,7 @@ use Rattle.gfm_table.proofs.Passing.{escape_one}
 use Rattle.gfm_table.proofs.states.row_escape.Goals as goal
 
 pub returns-in-Pipe : goal.returns-in-Pipe
-returns-in-Pipe c =
+returns-in-Pipe g c =
     let t = c.args.text.now in
     let here = front_at t.passes.reads t.bytes.now c.args.at c.kind_at.result c.kind_at.ensures in
     ⊎_elim
@@ -21,7 +21,7 @@ returns-in-Pipe c =
     c.in-Pipe.is
 
 pub returns-in_default : goal.returns-in_default
-returns-in_default c =
+returns-in_default g c =
     let t = c.args.text.now in
     let other = ahead_not t.passes.reads t.bytes.now c.args.at c.kind_at.result c.kind_at.ensures in
     omega (arith, ap length (escape_stops t.passes.reads (drop c.args.at t.bytes.now) (other Pipe (search rules)) (other Backslash (search rules))))

@@ -24,7 +24,7 @@ unfolding gave
 gave-none kind s c = refl
 
 pub loop-slot-preserved : goal.loop-slot-preserved
-loop-slot-preserved c =
+loop-slot-preserved g c =
     let l = c.loop-slot in
     let s = c.args.text.now.bytes.now in
     let kind = kind_in c.args.text.now.kinds.now in
@@ -40,7 +40,7 @@ loop-slot-preserved c =
     )
 
 pub returns : goal.returns
-returns c =
+returns g c =
     let l = c.loop-slot in
     let s = c.args.text.now.bytes.now in
     let kind = kind_in c.args.text.now.kinds.now in

@@ -14,7 +14,7 @@ use Rattle.gfm_table.proofs.Stretches.{unmarked, marked-at}
 use Rattle.gfm_table.proofs.values.marked_from.Goals as goal
 
 pub returns-in-Pipe : goal.returns-in-Pipe
-returns-in-Pipe c =
+returns-in-Pipe g c =
     let t = c.args.text.now in
     let l = c.loop-i in
     ⊎_elim
@@ -23,7 +23,7 @@ returns-in-Pipe c =
     c.in-Pipe.is
 
 pub loop-i-preserved : goal.loop-i-preserved
-loop-i-preserved c =
+loop-i-preserved g c =
     let t = c.args.text.now in
     let l = c.loop-i in
     let o = c.in_default in
@@ -31,14 +31,14 @@ loop-i-preserved c =
     (omega arith, sym (rw (ne_eqb _ 3 (apart_kinds c.kind_at.result Pipe o.not-Pipe), ne_eqb _ 6 (apart_kinds c.kind_at.result Colon o.not-Colon)) at m) ∙ l.invariant.1)
 
 pub returns-in-End : goal.returns-in-End
-returns-in-End c =
+returns-in-End g c =
     let t = c.args.text.now in
     let l = c.loop-i in
     unmarked t.passes.reads (drop l.i t.bytes.now) (sym c.kind_at.ensures ∙ ap kind_number c.in-End.is) ∙ l.invariant.1
 
 pub returns-after-loop-i : goal.returns-after-loop-i
 unfolding marked
-returns-after-loop-i c =
+returns-after-loop-i g c =
     let t = c.args.text.now in
     let l = c.loop-i in
     sym (ap (marked (kind_in t.kinds.now)) (past_last t.bytes.now l.i c.loop-i-test.false)) ∙ l.invariant.1

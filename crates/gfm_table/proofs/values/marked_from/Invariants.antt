@@ -6,6 +6,6 @@ use Rattle.gfm_table.proofs.Passing.{line_from}
 use Rattle.gfm_table.proofs.values.marked_from.Given as goal
 
 abbrev pub invariant-loop-i : goal.invariant-loop-i
-invariant-loop-i l =
+invariant-loop-i g l =
     let left = λ (i : _). marked (kind_in l.text.kinds.now) (line_from l.text.bytes.now i) in
     (l.i ≤ max l.at (length l.text.bytes.now)) × (left l.i ≡ left l.at)

@@ -1,5 +1,7 @@
 -- `align::mark_at` meets its contract.
 -- Assumes nothing.
+use Rattle.std.proofs.Common.{rules}
+use mathlib.Core.Path.{refl}
 use Rattle.tokenizer.specs.Bytes.{kind_in}
 use Rattle.sheet.specs.Aligning.{line_from}
 use Rattle.sheet.proofs.Aligning.{marked_by}
@@ -9,4 +11,4 @@ pub returns : goal.returns
 returns c =
     let a = c.args in
     let t = a.text.now in
-    rw (c.of.ensures, c.eq.ensures, c.eq-2.ensures, c.eq-3.ensures) (marked_by (kind_in t.kinds.now) (line_from t.bytes.now a.at) a.at _ c.scan_stretch-e.ensures)
+    marked_by (kind_in t.kinds.now) (line_from t.bytes.now a.at) a.at _ _ c.scan_stretch-e.ensures.0 c.scan_stretch-e.ensures.1 refl (search rules)

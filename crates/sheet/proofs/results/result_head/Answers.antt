@@ -6,8 +6,8 @@ use Rattle.tokenizer.specs.Points.{start_of}
 use Rattle.sheet.proofs.ResultRows.{head_small, head_break, head-marks, head_said}
 use Rattle.sheet.proofs.results.result_head.Goals as goal
 
-pub result_break-b-requires : goal.result_break-b-requires
-result_break-b-requires c =
+pub write_break-b-requires : goal.write_break-b-requires
+write_break-b-requires c =
     let t = c.args.text.now in
     rw c.result_row-h.ensures.0 (head_break (kind_in t.kinds.now) t.bytes.now (start_of c.args.from) c.args.to c.requires.0 c.requires.1 c.requires.2)
 
@@ -15,28 +15,26 @@ pub result_row-d-requires : goal.result_row-d-requires
 result_row-d-requires c =
     let t = c.args.text.now in
     let h = head-marks (kind_in t.kinds.now) t.bytes.now (start_of c.args.from) c.args.to c.requires.0 c.requires.1 c.requires.2 in
-    rw (c.start.ensures, c.result_break-b.ensures.0, c.result_row-h.ensures.0) h
+    rw (c.start.ensures, c.write_break-b.ensures.0, c.result_row-h.ensures.0) h
 
-pub one_more-requires : goal.one_more-requires
-one_more-requires c =
+pub write_exit-requires : goal.write_exit-requires
+write_exit-requires c =
     let t = c.args.text.now in
-    rw (c.result_row-d.ensures.0, c.start.ensures, c.result_break-b.ensures.0, c.result_row-h.ensures.0)
+    rw (c.result_row-d.ensures.0, c.start.ensures, c.write_break-b.ensures.0, c.result_row-h.ensures.0)
     (omega (arith, head_small (kind_in t.kinds.now) t.bytes.now (start_of c.args.from) c.args.to c.requires.0 c.requires.1 c.requires.2))
 
 pub returns : goal.returns
 returns c =
     let t = c.args.text.now in
     let said = head_said (kind_in t.kinds.now) t.bytes.now (start_of c.args.from) c.args.to c.args.slots.now in (
-      rw (c.one_more.ensures, c.result_row-d.ensures.0, c.start.ensures, c.result_break-b.ensures.0, c.result_row-h.ensures.0) said.0,
+      rw (c.write_exit.ensures.0, c.result_row-d.ensures.0, c.start.ensures, c.write_break-b.ensures.0, c.result_row-h.ensures.0) said.0,
       rw (
-        c.put-3.ensures,
-        c.exit.ensures,
-        c.point-3.ensures,
+        c.write_exit.ensures.1,
         c.result_row-d.ensures.0,
         c.result_row-d.ensures.1,
         c.start.ensures,
-        c.result_break-b.ensures.0,
-        c.result_break-b.ensures.1,
+        c.write_break-b.ensures.0,
+        c.write_break-b.ensures.1,
         c.result_row-h.ensures.0,
         c.result_row-h.ensures.1,
         c.put-2.ensures,

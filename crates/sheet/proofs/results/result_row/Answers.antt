@@ -13,6 +13,6 @@ returns g c =
     let t = a.text.now in
     let said = row_said (kind_in t.kinds.now) t.bytes.now g.R.RowKind.part (start_of a.from) a.to a.slots.now in
     let n = c.row_name-name.ensures ∙ ap name_of c.part.ensures in (
-      rw (c.one_more.ensures, c.write_cells-r.ensures.0) said.0,
-      rw (c.put-2.ensures, c.exit.ensures, c.point-2.ensures, c.write_cells-r.ensures.0, c.write_cells-r.ensures.1, c.put.ensures, c.enter.ensures, c.point.ensures, n) said.1,
+      rw (c.write_exit.ensures.0, c.of.ensures, c.write_cells-r.ensures.0) said.0,
+      rw (c.write_exit.ensures.1, c.of.ensures, c.write_cells-r.ensures.0, c.write_cells-r.ensures.1, c.put.ensures, c.enter.ensures, c.point.ensures, n) said.1,
     )

@@ -8,11 +8,11 @@ use Rattle.sheet.specs.Walk.{heads}
 use Rattle.sheet.specs.From.{AtLine}
 use Rattle.sheet.proofs.seek.next_head.Given as goal
 
-abbrev pub invariant-loop-head : goal.invariant-loop-head
-invariant-loop-head l =
+abbrev pub invariant-loop-d : goal.invariant-loop-d
+invariant-loop-d l =
     let s = l.text.bytes.now in
     let tables = heads (kind_in l.text.kinds.now) l.on in
     AtLine s (start_of l.head) × (tables (lines_from s (start_of l.head)) ≡ tables (lines_from s (start_of l.fn.from)))
 
-abbrev pub decreases-loop-head : goal.decreases-loop-head
-decreases-loop-head l = length l.text.bytes.now - l.head.at
+abbrev pub decreases-loop-d : goal.decreases-loop-d
+decreases-loop-d l = length l.text.bytes.now - l.head.at

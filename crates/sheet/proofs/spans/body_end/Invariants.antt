@@ -1,21 +1,17 @@
--- `spans::body_end` meets its contract: the last row and the tables behind it are those of each line passed. The measure is the bytes left.
+-- `spans::body_end` meets its contract: where the rows end from each line passed, they end from the first. The measure is the bytes left.
 -- Assumes nothing.
-use Rattle.std.proofs.Common.{◌≡◌, ◌-◌, length, Bool}
+use Rattle.std.proofs.Common.{◌-◌, length}
 use Rattle.tokenizer.specs.Bytes.{kind_in}
 use Rattle.tokenizer.specs.Points.{start_of}
-use Rattle.tokenizer.specs.Places.{lines_past}
-use Rattle.sheet.specs.Walk.{rows}
+use Rattle.sheet.specs.declared.spans.Tail.{Tail}
 use Rattle.sheet.specs.From.{AtLine}
-use Rattle.sheet.specs.Spans.{last_point}
+use Rattle.sheet.specs.Spans.{EndsBody}
 use Rattle.sheet.proofs.spans.body_end.Given as goal
 
-abbrev pub invariant-loop-row : goal.invariant-loop-row
-invariant-loop-row l =
-    let kind = kind_in l.text.kinds.now in
-    let s = l.text.bytes.now in
-    AtLine s (start_of l.row)
-    × (last_point kind s (start_of l.row) ≡ last_point kind s (start_of l.fn.from))
-    × ((on : Bool) → rows kind on (lines_past s (start_of l.row)) ≡ rows kind on (lines_past s (start_of l.fn.from)))
+abbrev pub invariant-loop-n : goal.invariant-loop-n
+invariant-loop-n l =
+    let ends = EndsBody (kind_in l.text.kinds.now) l.text.bytes.now in
+    AtLine l.text.bytes.now (start_of l.row) × ((r : Tail) → ends (start_of l.row) r → ends (start_of l.fn.from) r)
 
-abbrev pub decreases-loop-row : goal.decreases-loop-row
-decreases-loop-row l = length l.text.bytes.now - l.row.at
+abbrev pub decreases-loop-n : goal.decreases-loop-n
+decreases-loop-n l = length l.text.bytes.now - l.row.at

@@ -13,8 +13,8 @@ raw_next-d-requires c =
     let p = start_of c.args.from in
     rw c.raw_row-h.ensures.0 (at-end s p _ c.requires.0.inside, (λ e. c.requires.1 (sym (stop-end s p) ∙ e)), (head_few (kind_in c.args.text.now.kinds.now) s p c.args.to c.requires.2).2)
 
-pub one_more-requires : goal.one_more-requires
-one_more-requires c =
+pub write_exit-requires : goal.write_exit-requires
+write_exit-requires c =
     let t = c.args.text.now in
     rw (c.raw_next-d.ensures.0, c.raw_row-h.ensures.0) (head_few (kind_in t.kinds.now) t.bytes.now (start_of c.args.from) c.args.to c.requires.2).3
 
@@ -24,6 +24,6 @@ returns c =
     let k = kind_in a.text.now.kinds.now in
     let s = a.text.now.bytes.now in
     let p = start_of a.from in (
-      rw (c.one_more.ensures, c.raw_next-d.ensures.0, c.raw_row-h.ensures.0) (head-end k s p a.to),
-      rw (c.put-2.ensures, c.exit.ensures, c.point-2.ensures, c.raw_next-d.ensures.0, c.raw_next-d.ensures.1, c.raw_row-h.ensures.0, c.raw_row-h.ensures.1, c.put.ensures, c.enter.ensures, c.point.ensures) (head-made k s p a.to a.slots.now),
+      rw (c.write_exit.ensures.0, c.raw_next-d.ensures.0, c.raw_row-h.ensures.0) (head-end k s p a.to),
+      rw (c.write_exit.ensures.1, c.raw_next-d.ensures.0, c.raw_next-d.ensures.1, c.raw_row-h.ensures.0, c.raw_row-h.ensures.1, c.put.ensures, c.enter.ensures, c.point.ensures) (head-made k s p a.to a.slots.now),
     )

@@ -14,7 +14,7 @@ pub raw_row-requires : goal.raw_row-requires
 raw_row-requires g c =
     let a = c.args in
     let t = a.text.now in
-    rw (c.start.ensures, c.below-b.ensures) (after-inside t.bytes.now (point_at a.w) c.requires.1 c.requires.0.inside, (next-few (kind_in t.kinds.now) t.bytes.now g.R.RowKind.part a.w c.requires.0 c.requires.2).1)
+    rw (c.start.ensures, c.write_break-b.ensures.0) (after-inside t.bytes.now (point_at a.w) c.requires.1 c.requires.0.inside, (next-few (kind_in t.kinds.now) t.bytes.now g.R.RowKind.part a.w c.requires.2).1)
 
 pub returns : goal.returns
 returns g c =
@@ -22,6 +22,6 @@ returns g c =
     let k = kind_in a.text.now.kinds.now in
     let s = a.text.now.bytes.now in
     let t = g.R.RowKind.part in (
-      rw (c.raw_row.ensures.0, c.start.ensures, c.below-b.ensures) (ap (written_at (end_of (here s (after s (point_at a.w))))) (next_slot k s t a.w c.requires.0)),
-      rw (c.raw_row.ensures.1, c.start.ensures, c.put-2.ensures, c.exit.ensures, c.point-2.ensures, c.put.ensures, c.enter.ensures, c.point.ensures, c.below-b.ensures) (next-made k s t a.w c.requires.0 a.slots.now),
+      rw (c.raw_row.ensures.0, c.start.ensures, c.write_break-b.ensures.0) (ap (written_at (end_of (here s (after s (point_at a.w))))) (next_slot k s t a.w)),
+      rw (c.raw_row.ensures.1, c.start.ensures, c.write_break-b.ensures.0, c.write_break-b.ensures.1) (next-made k s t a.w a.slots.now),
     )

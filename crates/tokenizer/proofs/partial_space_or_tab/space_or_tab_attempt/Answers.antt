@@ -5,12 +5,13 @@ use mathlib.Core.Bool.{Bool, true, false}
 use Prim.Native.Nat.{ℕ, ◌+◌, ◌-◌}
 use mathlib.Core.List.{List}
 use native.Mathlib.Omega.{arith}
-use borrow.Author.Tests.{le-leb, lt-leb}
+use lib.Dec.{leb}
 use Rattle.tokenizer.specs.declared.event.Point.{Point}
-use Rattle.std.specs.Prelude.{Some}
+use Rattle.std.specs.Prelude.{Some, None, cond}
 use Rattle.tokenizer.specs.declared.feed.Feed.{Feed}
 use Rattle.tokenizer.specs.Feed.{feed_at}
 use Rattle.tokenizer.specs.Spaces.{space_units, space_ahead}
+use Rattle.tokenizer.proofs.Chosen.{chosen}
 use Rattle.tokenizer.proofs.Spaces.{fed-next, ahead_some, past_more, units_more, past_done, units_done}
 use Rattle.tokenizer.proofs.partial_space_or_tab.space_or_tab_attempt.Goals as goal
 use Rattle.tokenizer.proofs.partial_space_or_tab.space_or_tab_attempt.Goals.{After-consume-q}
@@ -45,18 +46,13 @@ loop-q-preserved c =
       omega (arith, units_more s l.q.point l.left e),
     )
 
-pub returns-then-max-left : goal.returns-then-max-left
-returns-then-max-left c =
-    let a = c.args in
-    let l = c.loop-q in
-    let h = ahead _ _ _ _ _ l.invariant.0.read c.space_ahead.ensures c.loop-q-test.false in
-    rw (lt-leb a.min (space_units a.s.now a.max a.f.point) (rw (counted a.s.now l.q.point a.max l.left _ h l.invariant.3) at c.if-max-left.true))
-
 pub returns : goal.returns
 returns c =
     let l = c.loop-q in
     let a = c.args in
     let s = a.s.now in
     let h = ahead _ _ _ _ _ l.invariant.0.read c.space_ahead.ensures c.loop-q-test.false in
-    rw (le-leb a.min (space_units s a.max a.f.point) (rw (counted s l.q.point a.max l.left _ h l.invariant.3) at c.if-max-left.false))
-    (ap Some (l.invariant.0.read ∙ ap (feed_at s) (sym (past_done s l.q.point l.left h) ∙ l.invariant.2)))
+    c.then_some.ensures
+    ∙ chosen (leb a.min (a.max - l.left)) l.q
+    ∙ ap (λ (n : ℕ). cond (leb a.min n) (Some l.q) None) (counted s l.q.point a.max l.left _ h l.invariant.3)
+    ∙ ap (λ (f : Feed). cond (leb a.min (space_units s a.max a.f.point)) (Some f) None) (l.invariant.0.read ∙ ap (feed_at s) (sym (past_done s l.q.point l.left h) ∙ l.invariant.2))

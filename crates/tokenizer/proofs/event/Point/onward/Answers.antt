@@ -18,7 +18,7 @@ next_line-requires c =
     let a = c.args in
     let h = c.requires in
     let e = (end_fits (drop a.self.index a.s.now)).1 in
-    let f = c.line_end.ensures in
+    let f = c.end_length.ensures in
     (omega (arith, h.lined), omega (arith, h.within), omega arith)
 
 pub returns-in-9 : goal.returns-in-9
@@ -27,7 +27,7 @@ returns-in-9 c = c.tab_unit.ensures ∙ onward_tab c.args.s.now c.args.self c.if
 pub returns-in-10 : goal.returns-in-10
 returns-in-10 c =
     c.next_line.ensures
-    ∙ ap (next_line c.args.self) c.line_end.ensures
+    ∙ ap (next_line c.args.self) c.end_length.ensures
     ∙ onward-end c.args.s.now c.args.self c.if-s-i.false (⊎_elim (λ e. rw e) (λ e. rw e) c.in-10.is)
 
 pub returns-in_default : goal.returns-in_default

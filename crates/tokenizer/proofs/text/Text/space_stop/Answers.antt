@@ -11,6 +11,6 @@ use Rattle.tokenizer.proofs.Runs.{indent_run}
 use Rattle.tokenizer.proofs.text.Text.space_stop.Goals as goal
 
 pub returns : goal.returns
-returns c =
+returns g c =
     let t = c.args.self.now in
     c.run_stop.ensures ∙ ap (λ (l : List ℕ). c.args.at + length l) (sym (indent_run (kind_in t.kinds.now) (line_body (drop c.args.at t.bytes.now))))
