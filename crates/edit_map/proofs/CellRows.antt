@@ -4,11 +4,12 @@ use Prim.Native.Nat.{ℕ, zero, suc, ◌+◌, ◌-◌, ◌*◌, ◌≤◌, ◌<�
 use mathlib.Core.Path.{◌≡◌, refl, sym, ap, ◌∙◌, subst}
 use mathlib.Core.List.{List, [], ◌∷◌, ◌++◌, append_assoc}
 use mathlib.Core.Bool.{Bool, true, false, cond, ◌||◌, ◌&&◌, not, true≢false}
-use lib.Dec.{eqb}
-use lib.ListN.{length, drop, set, length-append}
+use lib.Dec.{eqb, leb}
+use lib.ListN.{length, drop, set, length-append, length-set}
 use native.Mathlib.Omega.{arith}
-use borrow.Author.Tests.{eqb-true, eqb-false}
-use Rattle.std.specs.Prelude.{Option, Some, None}
+use borrow.Author.Tests.{eqb-true, eqb-false, leb-true, leb-false}
+use Rattle.std.specs.Prelude.{Option, Some, None, min}
+use Rattle.std.proofs.lemmas.List.{set_past}
 use Rattle.tokenizer.specs.declared.event.Point.{Point}
 use Rattle.tokenizer.specs.declared.event.Event.{Event}
 use Rattle.tokenizer.specs.declared.event.Name.{Name}
@@ -33,7 +34,7 @@ use Rattle.gfm_table.proofs.Passing.{line_from}
 use Rattle.gfm_table.proofs.Coming.{no_pieces, Piecing, Next, none, some, next-piece}
 use Rattle.edit_map.specs.declared.cell_steps.Within.{Within}
 use Rattle.edit_map.specs.declared.cell_steps.Step.{Step}
-use Rattle.edit_map.specs.Base.{is_text_name}
+use Rattle.edit_map.specs.Base.{is_text_name, most}
 use Rattle.edit_map.specs.Raw.{row_piece, delimiter_piece}
 use Rattle.edit_map.specs.Tables.{cells, row_inner, delimiter_inner, first_point, cell_events}
 use Rattle.edit_map.specs.Cells.{tail, tail_marks, row_turn, mark_turn}
@@ -81,6 +82,30 @@ count false true false k a b c d e f = omega arith
 count false false true k a b c d e f = omega arith
 count false false false k a b c d e f = omega arith
 
+-- the same number from any place
+pub from_any : (o t l : Bool) (k j : ℕ) → k + (past_if l (past_if t (past_if o (past_if o j)) + 2) - j) ≡ past_if l (past_if t (past_if o (past_if o k)) + 2)
+from_any true true true k j = omega arith
+from_any true true false k j = omega arith
+from_any true false true k j = omega arith
+from_any true false false k j = omega arith
+from_any false true true k j = omega arith
+from_any false true false k j = omega arith
+from_any false false true k j = omega arith
+from_any false false false k j = omega arith
+
+-- past all slots nothing is written, so the place of the first event matters no further than to the end of the slots
+wrote_past : (i : ℕ) (es zs : List Event) → length zs ≤ i → wrote i es zs ≡ zs
+unfolding wrote
+wrote_past i [] zs h = refl
+wrote_past i (e ∷ es) zs h = wrote_past (suc i) es (set zs i e) (omega (arith, h, length-set zs i e)) ∙ set_past zs i e h
+
+pub wrote_within : (k : ℕ) (es zs : List Event) → wrote (min k (length zs)) es zs ≡ wrote k es zs
+wrote_within k es zs = go (leb k (length zs)) refl
+  where
+    go : (b : Bool) → leb k (length zs) ≡ b → wrote (min k (length zs)) es zs ≡ wrote k es zs
+    go true e = let h = leb-true k (length zs) e in ap (λ (j : ℕ). wrote j es zs) (omega (arith, h))
+    go false e = let h = leb-false k (length zs) e in ap (λ (j : ℕ). wrote j es zs) (omega (arith, h)) ∙ wrote_past (length zs) es zs (omega arith) ∙ sym (wrote_past k es zs (omega (arith, h)))
+
 -- at most six
 at_most : (o t l : Bool) (k : ℕ) → past_if l (past_if t (past_if o (past_if o k)) + 2) ≤ k + 6
 at_most true true true k = omega arith
@@ -91,6 +116,10 @@ at_most false true true k = omega arith
 at_most false true false k = omega arith
 at_most false false true k = omega arith
 at_most false false false k = omega arith
+
+-- the slot behind a step whose first slot is small
+pub next_few : (x : Step) → x.slot < 1000000000000 → min (next_of x) most ≡ next_of x
+next_few x h = omega (arith, h, at_most x.opens x.enters x.leaves x.slot)
 
 -- ## How far a text goes
 

@@ -1,8 +1,9 @@
 // The cells of a row with what stands in them, written to slots.
-ghost use Rattle.std.specs.Prelude.{◌≡◌, ◌≤◌, ◌<◌};
+ghost use Rattle.std.specs.Prelude.{◌≡◌, ◌≤◌, min};
 ghost use Rattle.tokenizer.specs.Bytes.{kind_in};
 ghost use Rattle.tokenizer.specs.Points.{start_of};
 ghost use Rattle.tokenizer.specs.Moves.{Inside};
+ghost use Rattle.edit_map.specs.Base.{most};
 ghost use Rattle.edit_map.specs.CellRows.{next_of, step_put, cells_end, cells_wrote};
 
 use crate::cell_steps::{Step, Within, cell_name, next_step, value_name};
@@ -12,17 +13,18 @@ use tokenizer::event::{Event, LineStart, Link, Point};
 use tokenizer::slots::{put, put_if};
 use tokenizer::text::Sheet;
 
-// The events of a step are written from its slot on; the next slot.
+// The events of a step are written from its slot on; the next slot, or the greatest number where that is more.
 pub fn put_step(slots: &mut [Event], part: Part, line: u32, x: Step) -> usize
-    requires { x.slot < 1000000000000 }
-    ensures { (result ≡ next_of x) × (slots.new ≡ step_put part line x slots.old) }
+    ensures { (result ≡ min (next_of x) most) × (slots.new ≡ step_put part line x slots.old) }
 {
+    // A place behind all slots is as good as any further one, and six more fit.
+    let first = x.slot.min(slots.len());
     let start = x.start(line);
     let finish = x.finish(line);
     let link = if x.linked { Link::Text } else { Link::None };
     let cell = cell_name(part);
     let value = value_name(part);
-    let entered = put_if(slots, x.opens, x.slot, cell.exit(start));
+    let entered = put_if(slots, x.opens, first, cell.exit(start));
     let opened = put_if(slots, x.opens, entered, cell.enter(start));
     let begin = put_if(slots, x.enters, opened, value.enter(start));
     put(
@@ -34,7 +36,8 @@ pub fn put_step(slots: &mut [Event], part: Part, line: u32, x: Step) -> usize
         },
     );
     put(slots, begin + 1, x.name.exit(finish));
-    put_if(slots, x.leaves, begin + 2, value.exit(finish))
+    let next = put_if(slots, x.leaves, begin + 2, value.exit(finish));
+    x.slot.saturating_add(next - first)
 }
 
 // The cells of a row with what stands in them, from its first byte, into the slots from a place on.

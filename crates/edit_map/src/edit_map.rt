@@ -1,6 +1,7 @@
 // The edit map: edits of a list of events, with additions from a pool.
 ghost use Rattle.std.specs.Prelude.{◌≡◌, length};
-ghost use Rattle.tokenizer.specs.Slots.{slots_of};
+ghost use Rattle.tokenizer.specs.Events.{blank_event};
+ghost use Rattle.tokenizer.specs.Slots.{slots_of, cleared};
 ghost use Rattle.edit_order.specs.EditSlots.{edits_of};
 ghost use Rattle.edit_map.specs.EditAnswer.{slots_after, edit_answer, edit_slots, edit_results};
 ghost use Rattle.edit_map.specs.EditSettles.{settled};
@@ -25,15 +26,21 @@ fn settle(edits: &mut [usize], len: usize, pool: usize, slots: usize) -> Result<
     Ok(n)
 }
 
-// Records into the result slots, and blank ones behind the last.
-fn fill(records: Records, results: &mut [Event])
+// Records into the first result slots, as far as there are records and slots; how many. The slots behind them stay.
+fn fill(records: Records, results: &mut [Event]) -> usize
     requires { CanGive records }
-    ensures { results.new ≡ slots_of (length results.old) (left_of records.entry) }
+    ensures { cleared blank_event result results.new ≡ slots_of (length results.old) (left_of records.entry) }
 {
     let mut records = records;
-    for slot in results.iter_mut() {
-        *slot = records.next().unwrap_or(Event::BLANK);
+    for (i, slot) in results.iter_mut().enumerate() {
+        match records.next() {
+            Some(e) => {
+                *slot = e;
+            }
+            None => return i,
+        }
     }
+    results.len()
 }
 
 // The list, edited, into the result slots. Refused, these are blank, and the edit slots as they came.
@@ -52,7 +59,8 @@ pub fn edit(
         Ok(_) => {
             let walk = Walk { list, edits, pool };
             let cursor = Cursor::Between { at: 0, edit: 0 };
-            fill(Records { walk, cursor }, results);
+            let filled = fill(Records { walk, cursor }, results);
+            clear_from(results, filled, Event::BLANK);
         }
         Err(_) => clear_from(results, 0, Event::BLANK),
     }

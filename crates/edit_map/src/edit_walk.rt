@@ -209,7 +209,11 @@ impl Iterator for Records<'_> {
                 Stepped::On(next) => {
                     c = next;
                 }
-                Stepped::End => return None,
+                Stepped::End => {
+                    // Kept too: who asks again does not walk again over edits that add nothing.
+                    self.cursor = c;
+                    return None;
+                }
             }
         }
     }

@@ -1,20 +1,21 @@
 -- What is read of a sheet only where questions 20 to 22 and 1 are answered yes.
 -- Assumes nothing.
 use Prim.Native.Nat.{ℕ, ◌<◌, ◌≤◌}
-use mathlib.Core.Path.{◌≡◌, refl}
+use mathlib.Core.Path.{◌≡◌, refl, sym}
 use mathlib.Core.Bool.{Bool, true, false, cond}
 use mathlib.Core.List.{List, []}
 use native.Mathlib.Omega.{arith}
-use borrow.Author.Tests.{eqb-true, ltb-false}
+use borrow.Author.Tests.{eqb-true, eq-eqb, ne_eqb, ltb-false, le-ltb}
 use lib.Dec.{eqb, ltb}
 use lib.ListN.{length}
+use Rattle.tokenizer.specs.declared.event.Event.{Event}
+use Rattle.tokenizer.specs.Refusals.{length_refusal}
+use Rattle.tokenizer.specs.Slots.{wrote}
+use Rattle.tokenizer.proofs.Writing.{wrote_none}
 use Rattle.tokenizer.specs.Bytes.{kind_in, kinds_refusal, Passes}
 use Rattle.tokenizer.proofs.KindTables.{passes}
-use Rattle.sheet.specs.Walk.{Found, tables}
-
--- the tables that are read: none by a table of kinds that is refused, and none of a sheet that is too long
-abbrev pub tables_read : List ℕ → List ℕ → Bool → List Found
-tables_read s t on = cond (eqb (kinds_refusal t) 0) (cond (ltb 65536 (length s)) [] (tables (kind_in t) on s)) []
+use Rattle.sheet.specs.Walk.{Found, tables, raw_of, resolved_of}
+use Rattle.sheet.specs.Writing.{tables_read, aligned_from}
 
 module _ (s t : List ℕ) (on : Bool) where
   -- what holds of no tables, and of all where both are accepted, holds of those that are read
@@ -32,3 +33,27 @@ module _ (s t : List ℕ) (on : Bool) where
 
   pub read-passes : 0 < length (tables_read s t on) → Passes t
   read-passes = of_read (λ (fs : List Found). 0 < length fs → Passes t) (λ h. absurd (omega (arith, h))) (λ e l h. passes t e)
+
+  -- where both are accepted, all tables are read; where one is not, none
+  pub read_all : kinds_refusal t ≡ 0 → length s ≤ 65536 → tables_read s t on ≡ tables (kind_in t) on s
+  read_all k h = rw (eq-eqb (kinds_refusal t) 0 k, le-ltb 65536 (length s) h) refl
+
+  pub read_unkind : (kinds_refusal t ≡ 0 → ⊥) → tables_read s t on ≡ []
+  read_unkind k = rw (ne_eqb (kinds_refusal t) 0 k) refl
+
+  pub read_long : (length_refusal s ≡ 0 → ⊥) → tables_read s t on ≡ []
+  read_long h = of_read (λ (fs : List Found). fs ≡ []) refl (λ e l. absurd (h (rw (le-ltb 65536 (length s) l) refl)))
+
+  -- and where none is, nothing is written
+  module _ (none : tables_read s t on ≡ []) where
+    pub raw_stays : (zs : List Event) → zs ≡ wrote 0 (raw_of (tables_read s t on)) zs
+    unfolding raw_of
+    raw_stays zs = rw none (sym (wrote_none 0 zs))
+
+    pub results_stay : (zs : List Event) → zs ≡ wrote 0 (resolved_of (tables_read s t on)) zs
+    unfolding resolved_of
+    results_stay zs = rw none (sym (wrote_none 0 zs))
+
+    pub alignments_stay : (us : List ℕ) → us ≡ aligned_from 0 (tables_read s t on) us
+    unfolding aligned_from
+    alignments_stay us = rw none refl

@@ -1,7 +1,7 @@
 -- The slots of a whole sheet: what is written to them where it is accepted, cleared behind that; and cleared where it is not.
 -- Assumes nothing.
 use Prim.Native.Nat.{ℕ, ◌≤◌}
-use mathlib.Core.Path.{◌≡◌, refl, ap, sym, ◌∙◌}
+use mathlib.Core.Path.{◌≡◌, refl, ap, sym, ◌∙◌, subst}
 use mathlib.Core.Bool.{Bool, true, false, cond}
 use mathlib.Core.List.{List}
 use native.Mathlib.Omega.{arith}
@@ -16,15 +16,16 @@ use Rattle.tokenizer.specs.Bytes.{kinds_refusal}
 use Rattle.tokenizer.specs.Events.{blank_event}
 use Rattle.tokenizer.specs.Refusals.{length_refusal}
 use Rattle.tokenizer.specs.Slots.{cleared, wrote}
-use Rattle.tokenizer.proofs.Answering.{ok-answered, err-answered}
+use Rattle.tokenizer.proofs.Answering.{ok-answered, err-answered, short_enough}
 use Rattle.tokenizer.proofs.Blanks.{slots_none, cleared_all}
 use Rattle.tokenizer.proofs.Writing.{wrote_cleared}
 use Rattle.gfm_table.specs.Calls.{or_else, slot_refusal}
 use Rattle.sheet.specs.declared.calls.SheetCounts.{SheetCounts}
 use Rattle.sheet.specs.Walk.{Found, raw_of, resolved_of, aligned_of}
 use Rattle.sheet.specs.Aligning.{zeros}
-use Rattle.sheet.specs.Writing.{counts_of, aligned_from}
+use Rattle.sheet.specs.Writing.{tables_read, counts_of, aligned_from}
 use Rattle.sheet.specs.Calls.{result_refusal, sheet_tables, sheet_number, sheet_of, sheet_raw, sheet_results, sheet_aligned}
+use Rattle.sheet.proofs.Asked.{read_all}
 use Rattle.sheet.proofs.Slots.{cleared-zeros, aligned-kept}
 
 -- a question that none before it answers no, and that it does not either
@@ -66,6 +67,14 @@ module _ (s t : List ℕ) (on : Bool) (ys ms : List Event) (ks : List ℕ) where
       let c = or-0 (slot_refusal n (raw_of fs)) _ b.1 in
       let d = or-0 (result_refusal m (resolved_of fs)) _ c.1 in
       (enough 9 n _ (λ e. omega arith) c.0, (enough 12 m _ (λ e. omega arith) d.0, enough 14 k _ (λ e. omega arith) d.1))
+
+  -- what holds of the tables that are read holds of all where the sheet is accepted
+  pub ok_read : (r : Result SheetCounts Refusal) → r ≡ sheet_of s t on n m k → (P : List Found → Type 0) → P (tables_read s t on) → IfOk r (λ _. P fs)
+  ok_read (Ok c) e P p =
+      let z = (ok-answered (sheet_number s t on n m k) (counts_of fs) c e).1 in
+      let a = or-0 (kinds_refusal t) _ z in
+      subst P (read_all s t on a.0 (short_enough s (or-0 (length_refusal s) _ a.1).0)) p
+  ok_read (Err x) e P p = tt
 
   -- the slots cleared behind what is kept of an answer
   pub record Right (r : Result SheetCounts Refusal) (zs ws : List Event) (us : List ℕ) : Type 0 where

@@ -1,8 +1,13 @@
 -- The tables of a sheet, written one after the other.
-use Rattle.std.specs.Prelude.{ℕ, ◌+◌, List, [], ◌∷◌, length}
+use Rattle.std.specs.Prelude.{ℕ, ◌+◌, List, [], ◌∷◌, Bool, cond, eqb, ltb, length}
+use Rattle.tokenizer.specs.Bytes.{kind_in, kinds_refusal}
 use Rattle.sheet.specs.declared.calls.SheetCounts.{SheetCounts}
-use Rattle.sheet.specs.Walk.{Found, raw_of, resolved_of, aligned_of}
+use Rattle.sheet.specs.Walk.{Found, tables, raw_of, resolved_of, aligned_of}
 use Rattle.sheet.specs.Aligning.{filled_if}
+
+-- the tables that are read: none by a table of kinds that is refused, and none of a sheet that is too long
+abbrev pub tables_read : List ℕ → List ℕ → Bool → List Found
+tables_read s t on = cond (eqb (kinds_refusal t) 0) (cond (ltb 65536 (length s)) [] (tables (kind_in t) on s)) []
 
 -- how many tables, raw events, result events and alignments there are
 abbrev pub counts_of : List Found → SheetCounts

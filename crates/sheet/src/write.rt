@@ -1,10 +1,10 @@
 // A sheet's tables, written to the slots.
-ghost use Rattle.std.specs.Prelude.{◌≡◌, ◌≤◌, IfOk, length};
+ghost use Rattle.std.specs.Prelude.{◌≡◌, ◌≤◌, length};
 ghost use Rattle.tokenizer.specs.Bytes.{kind_in};
 ghost use Rattle.tokenizer.specs.Slots.{wrote};
 ghost use Rattle.sheet.specs.Walk.{tables, raw_of, resolved_of};
-ghost use Rattle.sheet.specs.Calls.{sheet_of, sheet_tables};
-ghost use Rattle.sheet.specs.Writing.{counts_of, aligned_from};
+ghost use Rattle.sheet.specs.Calls.{sheet_of};
+ghost use Rattle.sheet.specs.Writing.{tables_read, counts_of, aligned_from};
 
 use crate::align::align_from;
 use crate::calls::SheetCounts;
@@ -53,8 +53,8 @@ fn write_tables(
     counts
 }
 
-// The questions of a sheet in their order. Its tables are written to the slots where those of the table of kinds and question 1 are answered yes;
-// the questions of slots follow.
+// The questions of a sheet in their order. Its tables are written to the slots where those of the table of kinds and question 1 are answered yes,
+// else nothing is; the questions of slots follow.
 pub fn read_tables(
     sheet: &[u8],
     kinds: &[u8],
@@ -64,9 +64,9 @@ pub fn read_tables(
     alignments: &mut [u8],
 ) -> Result<SheetCounts, Refusal>
     ensures told { result ≡ sheet_of sheet.now kinds.now code_indented (length raw.old) (length results.old) (length alignments.old) }
-    ensures raw { IfOk result (λ _. raw.new ≡ wrote 0 (raw_of (sheet_tables sheet.now kinds.now code_indented (length raw.old) (length results.old) (length alignments.old))) raw.old) }
-    ensures results { IfOk result (λ _. results.new ≡ wrote 0 (resolved_of (sheet_tables sheet.now kinds.now code_indented (length raw.old) (length results.old) (length alignments.old))) results.old) }
-    ensures alignments { IfOk result (λ _. alignments.new ≡ aligned_from 0 (sheet_tables sheet.now kinds.now code_indented (length raw.old) (length results.old) (length alignments.old)) alignments.old) }
+    ensures raw { raw.new ≡ wrote 0 (raw_of (tables_read sheet.now kinds.now code_indented)) raw.old }
+    ensures results { results.new ≡ wrote 0 (resolved_of (tables_read sheet.now kinds.now code_indented)) results.old }
+    ensures alignments { alignments.new ≡ aligned_from 0 (tables_read sheet.now kinds.now code_indented) alignments.old }
 {
     asked(kinds)?;
     length_asked(sheet)?;

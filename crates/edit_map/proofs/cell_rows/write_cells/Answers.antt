@@ -5,7 +5,7 @@ use mathlib.Core.List.{List}
 use native.Mathlib.Omega.{arith}
 use Rattle.tokenizer.specs.declared.event.Event.{Event}
 use Rattle.gfm_table.specs.declared.rows.Reached.{Reached}
-use Rattle.edit_map.proofs.CellRows.{slot_few, goes, stops, opening}
+use Rattle.edit_map.proofs.CellRows.{slot_few, next_few, goes, stops, opening}
 use Rattle.edit_map.proofs.cell_rows.write_cells.Goals as goal
 
 pub loop-x-init : goal.loop-x-init
@@ -16,12 +16,6 @@ loop-x-init g c =
       (c.requires.0, omega (arith, c.requires.1)),
       opening t.passes.reads t.bytes.now g.R.RowKind.part from.line from.at c.args.to c.args.slots.now c.requires.0,
     )
-
-pub put_step-next-requires : goal.put_step-next-requires
-put_step-next-requires g c =
-    let t = c.args.text.now in
-    let l = c.loop-x in
-    slot_few t.passes.reads t.bytes.now g.R.RowKind.part c.args.from.line l.w c.in-Some.x l.invariant.0 (sym c.in-Some.ensures)
 
 pub loop-x-smaller : goal.loop-x-smaller
 loop-x-smaller g c =
@@ -35,7 +29,8 @@ loop-x-preserved g c =
     let t = c.args.text.now in
     let l = c.loop-x in
     let turn = goes t.passes.reads t.bytes.now g.R.RowKind.part c.args.from.line l.w c.in-Some.x l.invariant.0 (sym c.in-Some.ensures) in
-    rw (c.behind-w.ensures, c.put_step-next.ensures.0, c.put_step-next.ensures.1, c.part-part.ensures) (turn.good, l.invariant.1 ∙ turn.more l.slots)
+    let few = next_few c.in-Some.x (slot_few t.passes.reads t.bytes.now g.R.RowKind.part c.args.from.line l.w c.in-Some.x l.invariant.0 (sym c.in-Some.ensures)) in
+    rw (c.behind-w.ensures, c.put_step-next.ensures.0, few, c.put_step-next.ensures.1, c.part-part.ensures) (turn.good, l.invariant.1 ∙ turn.more l.slots)
 
 pub returns : goal.returns
 returns g c =

@@ -4,8 +4,8 @@ use mathlib.Core.Path.{refl, sym, ◌∙◌}
 use Rattle.edit_map.proofs.EditResult.{settled-answer, settled_slots, settled_results, settled_ready, refused_results}
 use Rattle.edit_map.proofs.edit_map.edit.Goals as goal
 
-pub fill-requires : goal.fill-requires
-fill-requires c =
+pub fill-filled-requires : goal.fill-filled-requires
+fill-filled-requires c =
     let a = c.args in
     let e = c.settle-answer.ensures in
     rw e.1 (settled_ready a.list.now a.pool.now a.edits.now _ _ (sym e.0 ∙ c.in-Ok.is))
@@ -17,7 +17,7 @@ returns-in-Ok c =
       e.0 ∙ settled-answer a.list.now a.pool.now a.edits.now _,
       (
         e.1 ∙ settled_slots a.list.now a.pool.now a.edits.now _,
-        rw e.1 at c.fill.ensures ∙ settled_results a.list.now a.pool.now a.edits.now _ _ (sym e.0 ∙ c.in-Ok.is),
+        c.clear_from.ensures ∙ rw e.1 at c.fill-filled.ensures ∙ settled_results a.list.now a.pool.now a.edits.now _ _ (sym e.0 ∙ c.in-Ok.is),
       ),
     )
 
@@ -28,6 +28,6 @@ returns-in-Err c =
       e.0 ∙ settled-answer a.list.now a.pool.now a.edits.now _,
       (
         e.1 ∙ settled_slots a.list.now a.pool.now a.edits.now _,
-        c.clear_from.ensures ∙ refused_results a.list.now a.pool.now a.edits.now _ _ (sym e.0 ∙ c.in-Err.is) a.results.now refl,
+        c.clear_from-in-Err.ensures ∙ refused_results a.list.now a.pool.now a.edits.now _ _ (sym e.0 ∙ c.in-Err.is) a.results.now refl,
       ),
     )

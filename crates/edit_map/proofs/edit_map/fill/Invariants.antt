@@ -4,7 +4,7 @@ use Rattle.tokenizer.specs.Slots.{slots_of}
 use Rattle.edit_map.specs.Records.{left_of}
 use Rattle.edit_map.proofs.edit_map.fill.Given as goal
 
-abbrev pub invariant-loop-slot : goal.invariant-loop-slot
-invariant-loop-slot l =
-    take l.slot-index l.results ++ slots_of (length l.initial.results - l.slot-index) (left_of l.records)
+abbrev pub invariant-loop-i : goal.invariant-loop-i
+invariant-loop-i l =
+    take l.i l.results ++ slots_of (length l.initial.results - l.i) (left_of l.records)
     ≡ slots_of (length l.initial.results) (left_of l.initial.records)

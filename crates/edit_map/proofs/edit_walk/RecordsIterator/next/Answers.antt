@@ -16,5 +16,5 @@ returns-in-Gives-clause-goes c =
 
 pub returns-in-End-clause-steps : goal.returns-in-End-clause-steps
 returns-in-End-clause-steps c =
-    let e = next-end c.loop-e.invariant.0 c.in-End.ensures in
-    rw c.loop-e.invariant.1 (c.requires, (e, e))
+    let w = c.loop-e.invariant.0 in
+    rw c.loop-e.invariant.1 (w.ready, (next-end w c.in-End.ensures, c.in-End.ensures))
