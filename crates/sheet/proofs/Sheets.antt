@@ -18,7 +18,7 @@ use Rattle.tokenizer.specs.Refusals.{length_refusal}
 use Rattle.tokenizer.specs.Slots.{cleared, wrote}
 use Rattle.tokenizer.proofs.Answering.{ok-answered, err-answered, short_enough}
 use Rattle.tokenizer.proofs.Blanks.{slots_none, cleared_all}
-use Rattle.tokenizer.proofs.Writing.{wrote_cleared}
+use Rattle.tokenizer.proofs.Writing.{wrote_cleared, wrote-length}
 use Rattle.gfm_table.specs.Calls.{or_else, slot_refusal}
 use Rattle.sheet.specs.declared.calls.SheetCounts.{SheetCounts}
 use Rattle.sheet.specs.Walk.{Found, raw_of, resolved_of, aligned_of}
@@ -26,7 +26,7 @@ use Rattle.sheet.specs.Aligning.{zeros}
 use Rattle.sheet.specs.Writing.{tables_read, counts_of, aligned_from}
 use Rattle.sheet.specs.Calls.{result_refusal, sheet_tables, sheet_number, sheet_of, sheet_raw, sheet_results, sheet_aligned}
 use Rattle.sheet.proofs.Asked.{read_all}
-use Rattle.sheet.proofs.Slots.{cleared-zeros, aligned-kept}
+use Rattle.sheet.proofs.Slots.{cleared-zeros, aligned-length, aligned-kept}
 
 -- a question that none before it answers no, and that it does not either
 or-0 : (a b : ℕ) → or_else a b ≡ 0 → (a ≡ 0) × (b ≡ 0)
@@ -76,15 +76,22 @@ module _ (s t : List ℕ) (on : Bool) (ys ms : List Event) (ks : List ℕ) where
       subst P (read_all s t on a.0 (short_enough s (or-0 (length_refusal s) _ a.1).0)) p
   ok_read (Err x) e P p = tt
 
+  -- the tables that are read, and what is kept of the answer
+  abbrev gs : List Found
+  gs = tables_read s t on
+
+  abbrev kept : SheetCounts
+  kept = result_unwrap_or (sheet_of s t on n m k) none
+
   -- the slots cleared behind what is kept of an answer
-  pub record Right (r : Result SheetCounts Refusal) (zs ws : List Event) (us : List ℕ) : Type 0 where
+  pub record RightBy (r : Result SheetCounts Refusal) (zs ws : List Event) (us : List ℕ) : Type 0 where
     pub events : cleared blank_event (result_unwrap_or r none).events zs ≡ sheet_raw s t on n m k
     pub results : cleared blank_event (result_unwrap_or r none).results ws ≡ sheet_results s t on n m k
     pub aligned : cleared 0 (result_unwrap_or r none).alignments us ≡ sheet_aligned s t on n m k
 
-  pub right : (r : Result SheetCounts Refusal) (zs ws : List Event) (us : List ℕ) → r ≡ sheet_of s t on n m k → length zs ≡ n → length ws ≡ m → length us ≡ k
-      → IfOk r (λ _. zs ≡ wrote 0 (raw_of fs) ys) → IfOk r (λ _. ws ≡ wrote 0 (resolved_of fs) ms) → IfOk r (λ _. us ≡ aligned_from 0 fs ks) → Right r zs ws us
-  right (Ok c) zs ws us e x y z p q w =
+  pub right_by : (r : Result SheetCounts Refusal) (zs ws : List Event) (us : List ℕ) → r ≡ sheet_of s t on n m k → length zs ≡ n → length ws ≡ m → length us ≡ k
+      → IfOk r (λ _. zs ≡ wrote 0 (raw_of fs) ys) → IfOk r (λ _. ws ≡ wrote 0 (resolved_of fs) ms) → IfOk r (λ _. us ≡ aligned_from 0 fs ks) → RightBy r zs ws us
+  right_by (Ok c) zs ws us e x y z p q w =
       let a = ok-answered (sheet_number s t on n m k) (counts_of fs) c e in
       let f = enough-slots a.1 in
       rw (a.0, p, q, w)
@@ -93,10 +100,28 @@ module _ (s t : List ℕ) (on : Bool) (ys ms : List Event) (ks : List ℕ) where
         results = wrote_cleared (resolved_of fs) ms f.1.0 ∙ rw (eq-eqb _ 0 a.1) refl;
         aligned = aligned-kept fs ks f.1.1 ∙ rw (eq-eqb _ 0 a.1, le-leb (length (aligned_of fs)) k f.1.1) refl;
       })
-  right (Err x) zs ws us e a b d p q w =
+  right_by (Err x) zs ws us e a b d p q w =
       let h = ne_eqb _ 0 (err-answered (sheet_number s t on n m k) (counts_of fs) x e).1 in
       record {
         events = cleared_all zs ∙ ap (λ i. replicate i blank_event) a ∙ sym (slots_none n) ∙ rw h refl;
         results = cleared_all ws ∙ ap (λ i. replicate i blank_event) b ∙ sym (slots_none m) ∙ rw h refl;
         aligned = cleared-zeros us ∙ ap zeros d ∙ rw h refl;
       }
+
+  -- every slot: what is written of the tables that are read, cleared behind what is kept
+  pub record Right : Type 0 where
+    pub events : cleared blank_event kept.events (wrote 0 (raw_of gs) ys) ≡ sheet_raw s t on n m k
+    pub results : cleared blank_event kept.results (wrote 0 (resolved_of gs) ms) ≡ sheet_results s t on n m k
+    pub aligned : cleared 0 kept.alignments (aligned_from 0 gs ks) ≡ sheet_aligned s t on n m k
+
+  pub right : Right
+  right =
+      let r = sheet_of s t on n m k in
+      let zs = wrote 0 (raw_of gs) ys in
+      let ws = wrote 0 (resolved_of gs) ms in
+      let us = aligned_from 0 gs ks in
+      let h = right_by r zs ws us refl (wrote-length 0 (raw_of gs) ys) (wrote-length 0 (resolved_of gs) ms) (aligned-length 0 gs ks)
+            (ok_read r refl (λ (x : List Found). zs ≡ wrote 0 (raw_of x) ys) refl)
+            (ok_read r refl (λ (x : List Found). ws ≡ wrote 0 (resolved_of x) ms) refl)
+            (ok_read r refl (λ (x : List Found). us ≡ aligned_from 0 x ks) refl) in
+      record { events = h.events; results = h.results; aligned = h.aligned }

@@ -20,11 +20,13 @@ abbrev pub here : List ℕ → Point → Placed
 here s p = record { at = p; line = line_at s p }
 
 module _ (kind : ℕ → ℕ) where
-  -- the number n, where the line at the place i has n cells and more than a lone divider; otherwise 0
+  -- whether the line at the place i has n cells and more than a lone divider
+  abbrev pub is_head_line : List ℕ → ℕ → ℕ → Bool
+  is_head_line s i n = let u = line_body (drop i s) in not (lone_divider (solid (row_pieces kind false u))) && eqb n (head_cells kind u)
+
+  -- the number n, where it is so; otherwise 0
   abbrev pub columns_if : List ℕ → ℕ → ℕ → ℕ
-  columns_if s i n =
-      let u = line_body (drop i s) in
-      cond (not (lone_divider (solid (row_pieces kind false u))) && eqb n (head_cells kind u)) n 0
+  columns_if s i n = cond (is_head_line s i n) n 0
 
   -- the columns of the head whose line starts at the place i and whose delimiter row at d, 0 where they are no head
   abbrev pub columns_of : List ℕ → Bool → ℕ → ℕ → ℕ

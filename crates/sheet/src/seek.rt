@@ -1,12 +1,12 @@
 // The next head of a sheet, by places.
-ghost use Rattle.std.specs.Prelude.{◌≡◌, cond, ◌+◌, ◌≤◌, ◌<◌, length, drop};
+ghost use Rattle.std.specs.Prelude.{◌≡◌, ◌+◌, ◌≤◌, ◌<◌, length, drop};
 ghost use Rattle.tokenizer.specs.Bytes.{kind_in, kind_of};
 ghost use Rattle.tokenizer.specs.Points.{start_of};
 ghost use Rattle.tokenizer.specs.Lines.{line_body, indent};
 ghost use Rattle.gfm_table.specs.Heads.{shallow};
 ghost use Rattle.gfm_table.specs.Delimiters.{value_count, positive};
 ghost use Rattle.sheet.specs.Walk.{closes};
-ghost use Rattle.sheet.specs.From.{AtLine, columns_if, columns_of, Finds};
+ghost use Rattle.sheet.specs.From.{AtLine, is_head_line, columns_of, Finds};
 
 use gfm_table::delimiter::permits_at;
 use gfm_table::pieces::head_row;
@@ -46,7 +46,7 @@ pub fn closes_at<const MOST: usize>(text: &Text<MOST>, at: usize) -> bool
 // Whether the line at a place has n cells and more than a lone divider.
 pub fn is_head_line(text: &Sheet, at: usize, n: u32) -> bool
     requires { at ≤ length text.now.bytes.now }
-    ensures { cond result n 0 ≡ columns_if (kind_in text.now.kinds.now) text.now.bytes.now at n }
+    ensures { result ≡ is_head_line (kind_in text.now.kinds.now) text.now.bytes.now at n }
 {
     let r = head_row(text, at);
     1 < r.size_b && n == r.size
