@@ -24,7 +24,6 @@ use Rattle.tokenizer.proofs.Writing.{wrote_one, wrote-more, wrote-append, past-i
 use Rattle.gfm_table.specs.declared.stream.Part.{Part}
 use Rattle.gfm_table.specs.declared.stream.Part.TheVariants.{Head, Delimiter, Body}
 use Rattle.gfm_table.specs.declared.rows.Placed.{Placed}
-use Rattle.gfm_table.specs.declared.rows.Stop.{Stop}
 use Rattle.gfm_table.specs.declared.rows.Reached.{Reached}
 use Rattle.gfm_table.specs.Rows.{Piece, Passed, passed}
 use Rattle.gfm_table.specs.Machine.{data_run}
@@ -32,17 +31,18 @@ use Rattle.gfm_table.specs.Stream.{pieces_of}
 use Rattle.gfm_table.specs.Places.{point_in, placed, next_at}
 use Rattle.gfm_table.proofs.Passing.{line_from}
 use Rattle.gfm_table.proofs.Coming.{no_pieces, Piecing, Next, none, some, next-piece}
+use Rattle.edit_map.specs.declared.cell_spans.Stop.{Stop}
 use Rattle.edit_map.specs.declared.cell_steps.Within.{Within}
 use Rattle.edit_map.specs.declared.cell_steps.Step.{Step}
 use Rattle.edit_map.specs.Base.{is_text_name, most}
 use Rattle.edit_map.specs.Raw.{row_piece, delimiter_piece}
 use Rattle.edit_map.specs.Tables.{cells, row_inner, delimiter_inner, first_point, cell_events}
 use Rattle.edit_map.specs.Cells.{tail, tail_marks, row_turn, mark_turn}
-use Rattle.edit_map.specs.Spans.{opens_at, text_next, Reaches}
+use Rattle.edit_map.specs.Spans.{opens_at, text_next, Reaches, ReachesAs}
 use Rattle.edit_map.specs.CellRows.{cell_of, value_of, inside_of, text_left, reach_of, step_from, step_over, step_of, first_within, behind, start_of, stop_of, next_of, entry_in, step_events, step_put, cells_at, cells_end, cells_wrote}
 use Rattle.edit_map.proofs.Cells.{enters, row_ends, marks-end}
 use Rattle.edit_map.proofs.Spans.{text_ahead_lem, space_next, Goes, goes_none, goes_ends, next}
-use Rattle.edit_map.proofs.CellTurns.{ReachesAs, first-named, is_data, row_at, marks-at}
+use Rattle.edit_map.proofs.CellTurns.{first-named, is_data, row_at, marks-at}
 use Rattle.edit_order.proofs.Bools.{either, and_false, and_true}
 use Rattle.edit_map.proofs.RawRows.{Named, rows_named, delimiters_named}
 

@@ -12,14 +12,14 @@ use Rattle.tokenizer.specs.declared.event.Event.{Event}
 use Rattle.tokenizer.specs.Bytes.{Reads}
 use Rattle.tokenizer.specs.Points.{column_past, past}
 use Rattle.tokenizer.specs.Events.{Data, GfmTableCellDivider, SpaceOrTab, enter, leave}
-use Rattle.gfm_table.specs.declared.rows.Stop.{Stop}
 use Rattle.gfm_table.specs.Rows.{Piece, Passed, row_pieces, delimiter_pieces, passed}
 use Rattle.gfm_table.proofs.Passing.{line_from}
+use Rattle.edit_map.specs.declared.cell_spans.Stop.{Stop}
 use Rattle.edit_map.specs.Base.{is_text_name}
 use Rattle.edit_map.specs.Raw.{row_piece}
 use Rattle.edit_map.specs.Tables.{row_inner}
 use Rattle.edit_map.specs.Cells.{text_ahead, later, last_ahead, tail, tail_marks, row_turn, mark_turn}
-use Rattle.edit_map.specs.Spans.{opens_at, text_next, pieces_from, Reaches}
+use Rattle.edit_map.specs.Spans.{opens_at, text_next, pieces_from, ReachesAs}
 use Rattle.edit_order.proofs.Bools.{either}
 use Rattle.edit_map.proofs.Gives.{Fine, AllFine, also}
 use Rattle.edit_map.proofs.Streams.{sort_row, sort_delimiter, all-fine}
@@ -54,10 +54,6 @@ first-named (named h hs) = h
 -- the only texts of such a row are data
 pub is_data : (m : ℕ) → row_piece m ≡ true → is_text_name m ≡ eqb m Data
 is_data m = either (eqb m 1 || eqb m 10) (eqb m 3) (either (eqb m 1) (eqb m 10) (λ z. rw (eqb-true m 1 z)) (λ z. rw (eqb-true m 10 z))) (λ z. rw (eqb-true m 3 z))
-
--- a piece of a name that ends at a place: a text goes on to r, another piece ends there
-abbrev pub ReachesAs : (ℕ → ℕ) → ℕ → List ℕ → ℕ → ℕ → Stop → Type 0
-ReachesAs kind n s from column r = (n ≡ Data → Reaches kind s from column r) × ((n ≡ Data → ⊥) → r ≡ record { at = from; column = column })
 
 module _ {kind : ℕ → ℕ} (ok : Reads kind) (n : ℕ) (q : Point) (s : List ℕ) (line at c m : ℕ) (t : List ℕ) (end d : ℕ) (l : end ≡ at + length t) (k : d ≡ column_past c t) where
   -- a piece of the name m from a place to its end

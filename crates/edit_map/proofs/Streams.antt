@@ -140,7 +140,7 @@ enters-kind n e h = rw (eqb-true e.kind 1 (both_true (eqb e.kind 1) (eqb e.name 
 table-gives : {t : Table} (rest : List Event) → goes_on (first rest) ≡ false → IsTable t → Gives (plain Out Part.Head) (raw_table t ++ rest) (resolved_table t) (plain Out Part.Head) rest
 table-gives {t} rest stops h =
     moved (raw-is t rest) (resolved-is t)
-    (turned (enter GfmTable (point_of t.entry)) (plain Head Part.Head) 0 (rw (enters-kind GfmTableHead t.entry h.enter)) refl
+    (turned (enter GfmTable (point_of t.entry)) (plain Head Part.Head) 0 (rw (enters-kind GfmTableHead t.entry h.enter)) (rw (enters-kind GfmTableHead t.entry h.enter))
     (more refl
     (then (text-row Part.Head _ h.head)
     (more refl (more refl (more refl

@@ -83,9 +83,13 @@ is_over c this = is_out c.mode.phase && eqb this.kind 0
 abbrev pub over_at : List Event → Cursor → Bool
 over_at es c = is_over c (event_at es c.at)
 
+-- before the table at a place
+abbrev pub cursor_at : ℕ → Cursor
+cursor_at i = record { mode = plain Out Part.Head; at = i }
+
 -- the stream's start
 abbrev pub front : Cursor
-front = record { mode = plain Out Part.Head; at = 0 }
+front = cursor_at 0
 
 -- slots filled by turns, one each, up to the end of the stream; those behind it stay
 unfoldable pub stepped : List Event → Cursor → List Event → List Event

@@ -5,7 +5,7 @@ use Rattle.tokenizer.specs.Lines.{line_body, unindented, blank}
 use Rattle.tokenizer.specs.Points.{column_past, past}
 use Rattle.tokenizer.specs.Events.{Data, GfmTableCellDivider, leave}
 use Rattle.gfm_table.specs.Rows.{Piece, Passed, row_pieces, passed}
-use Rattle.gfm_table.specs.declared.rows.Stop.{Stop}
+use Rattle.edit_map.specs.declared.cell_spans.Stop.{Stop}
 use Rattle.edit_map.specs.Cells.{later, last_ahead}
 
 module _ (kind : ℕ → ℕ) where
@@ -34,3 +34,7 @@ module _ (kind : ℕ → ℕ) where
     pub wide : r.column ≡ column_past column text
     pub behind : (p : Point) → p.vs ≡ 0 → later (passed p (pieces_from s from)) ≡ passed (past p text) (pieces_from s r.at)
     pub last : (x : Passed) (p : Point) → p.vs ≡ 0 → x.exit ≡ leave Data p → (last_ahead x (passed p (pieces_from s from))).exit ≡ leave Data (past p text)
+
+  -- a piece of a name that ends at a place: a text goes on to r, another piece ends there
+  abbrev pub ReachesAs : ℕ → List ℕ → ℕ → ℕ → Stop → Type 0
+  ReachesAs n s from column r = (n ≡ Data → Reaches s from column r) × ((n ≡ Data → ⊥) → r ≡ record { at = from; column = column })

@@ -73,6 +73,10 @@ row_exit_turn Part.Body this next = cond (goes_on next) (given this (plain End P
 abbrev pub head_exit_turn : Event → Event → Turn
 head_exit_turn this next = cond (goes_on next) (given this (plain End Part.Delimiter) 1) (given this (plain TableLeave Part.Delimiter) 0)
 
+-- before a table, or at the end of the list, where the blank record that is read there is given
+abbrev pub out_turn : Mode → Event → Turn
+out_turn m this = cond (eqb this.kind 0) (given this m 0) (given (enter GfmTable (point_of this)) (plain Head Part.Head) 0)
+
 -- a value is copied up to its last exit, after which it is left
 abbrev pub copy_turn : Mode → Event → Turn
 copy_turn m this = cond (eqb m.left 0) (given this (to m Leave 0) 0) (given this (to m Copy (m.left - 1)) 1)
@@ -85,7 +89,7 @@ end_exit_turn Part.Body this = given this (plain Row Part.Body) 1
 
 -- one turn in a phase
 abbrev pub turn_in : Phase → Mode → Event → Event → ℕ → Bool → Turn
-turn_in Out m this next ahead solid = given (enter GfmTable (point_of this)) (plain Head Part.Head) 0
+turn_in Out m this next ahead solid = out_turn m this
 turn_in Head m this next ahead solid = given this (plain Row Part.Head) 1
 turn_in Row m this next ahead solid = given this (plain Cell m.part) 1
 turn_in Cell m this next ahead solid = enter_cell m.part this

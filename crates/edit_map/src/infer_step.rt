@@ -62,18 +62,25 @@ impl Alignment {
 }
 
 impl Aligning {
-    // Before the table at a place.
-    pub fn before(at: usize) -> Self
-        ensures { result ≡ start_at Stage.Opening at }
+    // Before the table at a place, or a state that has nothing to give.
+    pub fn start(good: bool, at: usize) -> Self
+        ensures { result ≡ start_at (cond good Stage.Opening Stage.Failed) at }
     {
         Aligning {
-            stage: Stage::Opening,
+            stage: if good { Stage::Opening } else { Stage::Failed },
             front: false,
             last: false,
             given: None,
             count: 0,
             at,
         }
+    }
+
+    // Before the table at a place.
+    pub fn before(at: usize) -> Self
+        ensures { result ≡ start_at Stage.Opening at }
+    {
+        Self::start(true, at)
     }
 
     // The stage after a record that gives no alignment.

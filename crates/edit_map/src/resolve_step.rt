@@ -1,6 +1,6 @@
 // The resolver as a stream of result records.
 ghost use Rattle.std.specs.Prelude.{◌≡◌};
-ghost use Rattle.edit_map.specs.Cursors.{is_over, moves};
+ghost use Rattle.edit_map.specs.Cursors.{is_over, moves, cursor_at};
 
 use crate::resolve_turn::{Mode, Phase, Turn};
 use gfm_table::stream::Part;
@@ -25,6 +25,13 @@ impl Cursor {
         },
         at: 0,
     };
+
+    // Before the table at a place.
+    pub fn at(at: usize) -> Self
+        ensures { result ≡ cursor_at at }
+    {
+        Cursor { at, ..Self::FRONT }
+    }
 
     // Whether the stream is at its end: no table follows.
     pub fn is_over(self, this: Event) -> bool

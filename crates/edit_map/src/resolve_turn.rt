@@ -2,13 +2,13 @@
 ghost use Rattle.std.specs.Prelude.{◌≡◌};
 ghost use Rattle.tokenizer.specs.Events.{linked};
 ghost use Rattle.edit_map.specs.declared.resolve_turn.Phase.TheVariants.{Copy};
-ghost use Rattle.edit_map.specs.Turns.{to, value_phase, plain, given, piece_turn, row_exit_turn, head_exit_turn, copy_turn, leave_cell, enter_cell, enter_value, copy_piece, end_exit_turn, turn_of};
+ghost use Rattle.edit_map.specs.Turns.{to, value_phase, plain, given, piece_turn, row_exit_turn, head_exit_turn, out_turn, copy_turn, leave_cell, enter_cell, enter_value, copy_piece, end_exit_turn, turn_of};
 
 use crate::cell_steps::{cell_name, value_name};
 use crate::resolve_base::{is_row_name, is_text_name};
 use crate::resolve_look::Look;
 use gfm_table::stream::Part;
-use tokenizer::event::{Event, Link, Name, Point};
+use tokenizer::event::{Event, EventKind, Link, Name, Point};
 
 // Where the stream of result records stands.
 #[derive(Clone, Copy, PartialEq, Eq)]
@@ -127,6 +127,23 @@ fn head_exit_turn(this: Event, next: Event) -> Turn
     }
 }
 
+// Before a table, or at the end of the list, where the blank record that is read there is given and nothing is passed. A stream stops there
+// and asks for no turn; who takes turns without one stays at the end.
+fn out_turn(m: Mode, this: Event) -> Turn
+    ensures { result ≡ out_turn m this }
+{
+    if this.kind == EventKind::Blank as u8 {
+        given(this, m, 0)
+    } else {
+        outside(
+            Name::GfmTable.enter(this.into()),
+            Phase::Head,
+            Part::Head,
+            0,
+        )
+    }
+}
+
 // A cell is left.
 fn leave_cell(p: Part, this: Event, then: Phase) -> Turn
     ensures { result ≡ leave_cell p this then }
@@ -236,7 +253,7 @@ impl Mode {
             ..self
         };
         match self.phase {
-            Phase::Out => outside(Name::GfmTable.enter(here), Phase::Head, Part::Head, 0),
+            Phase::Out => out_turn(self, this),
             Phase::Head => outside(this, Phase::Row, Part::Head, 1),
             Phase::Row => outside(this, Phase::Cell, p, 1),
             Phase::Cell => enter_cell(p, this),

@@ -2,10 +2,11 @@
 // by places, in `values`: the search for heads by points was among what took most of its time (docs/PERFORMANCE.md).
 ghost use Rattle.std.specs.Prelude.{◌≡◌, ◌≤◌, length, drop};
 ghost use Rattle.tokenizer.specs.Bytes.{kind_in};
+ghost use Rattle.tokenizer.specs.Points.{past};
 ghost use Rattle.tokenizer.specs.Lines.{is_empty, line_body};
 ghost use Rattle.tokenizer.specs.Moves.{rest_of, Inside};
 ghost use Rattle.gfm_table.specs.Heads.{permitted};
-ghost use Rattle.gfm_table.specs.Delimiters.{stretch, blank_at, closed_at, hyphens_at, cell_at, rest_at, values_at, delimiter_at};
+ghost use Rattle.gfm_table.specs.Delimiters.{stretch, blank_at, closed_at, hyphens_at, cell_at, rest_at, values_at, delimiter_at, filler_run};
 
 use crate::values::marked_from;
 use tokenizer::event::{LineStart, Point};
@@ -61,7 +62,7 @@ pub fn head_delimiter_left_alignment_after(text: &Sheet, p: Point) -> Option<Cel
     ensures { result ≡ hyphens_at (kind_in text.now.kinds.now) p (rest_of text.now.bytes.now p) }
 {
     match text.ahead(p) {
-        Kind::Hyphen => head_delimiter_filler(text, text.run_end(p, Kind::Hyphen)),
+        Kind::Hyphen => head_delimiter_filler(text, text.run_end(p, Kind::Hyphen as u8)),
         _ => None,
     }
 }
@@ -161,5 +162,23 @@ pub fn head_delimiter_start(text: &Sheet, p: Point, on: bool) -> Option<Values>
     match text.ahead(p) {
         Kind::Space | Kind::Pipe | Kind::Hyphen | Kind::Colon => head_delimiter_row(text, p, on),
         _ => None,
+    }
+}
+
+// The end of a run of bytes that a delimiter row names fillers. It goes by points, and not to `fillers_end`: each byte's column is counted on the way.
+pub fn filler_end(text: &Sheet, p: Point) -> Point
+    requires { Inside text.now.bytes.now p }
+    ensures { result ≡ past p (filler_run (kind_in text.now.kinds.now) (rest_of text.now.bytes.now p)) }
+{
+    let mut q = p;
+    loop {
+        match text.ahead(q) {
+            Kind::Space | Kind::End | Kind::Pipe | Kind::Colon => {
+                return q;
+            }
+            _ => {
+                q = over(text.bytes, q);
+            }
+        }
     }
 }

@@ -16,7 +16,8 @@ use Rattle.tokenizer.specs.Moves.{ahead_of}
 use Rattle.tokenizer.proofs.Ahead.{Front, goes}
 use Rattle.tokenizer.proofs.SameTags.{same, other, not_unlike, unlike}
 
-tagged : (k : Kind) → tag_of the_type k ≡ kind_number k
+-- a kind as a number is its number
+pub tagged : (k : Kind) → tag_of the_type k ≡ kind_number k
 tagged Other = refl
 tagged Space = refl
 tagged End = refl

@@ -23,6 +23,14 @@ unfoldable pub wrote : ℕ → List Event → List Event → List Event
 wrote i [] zs = zs
 wrote i (e ∷ es) zs = wrote (suc i) es (set zs i e)
 
+-- a place past every slot
+abbrev pub nowhere : ℕ
+nowhere = 18446744073709551615
+
+-- the place of a slot that is written, or one past all slots
+abbrev pub slot_if : Bool → ℕ → ℕ
+slot_if b i = cond b i nowhere
+
 -- the place behind a slot that is written, or the same place
 abbrev pub past_if : Bool → ℕ → ℕ
 past_if b i = cond b (i + 1) i

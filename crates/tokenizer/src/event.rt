@@ -4,7 +4,7 @@ ghost use Rattle.tokenizer.specs.Points.{start, column_after, past, next_line, s
 ghost use Rattle.tokenizer.specs.Lines.{first_start};
 ghost use Rattle.tokenizer.specs.Events.{blank_event, number, enter, leave, point_of};
 
-use crate::lines::first_start;
+use crate::lines::first_point;
 use std::fmt;
 
 // A place in the sheet. Lines and columns count from 1; `vs` counts the units passed inside a tab.
@@ -29,9 +29,10 @@ impl LineStart {
     pub fn first(s: &[u8]) -> LineStart
         ensures { result ≡ record { line = 1; at = first_start s.now } }
     {
+        let p = first_point(s);
         LineStart {
-            line: 1,
-            at: first_start(s) as u32,
+            line: p.line,
+            at: p.index,
         }
     }
 

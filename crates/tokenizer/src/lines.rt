@@ -3,7 +3,7 @@ ghost use Rattle.std.specs.Prelude.{◌≡◌, ◌≤◌, ◌<◌, ◌+◌, leng
 ghost use Rattle.tokenizer.specs.Lines.{starts_lf, end_at, line_end, first_start, ends_line, starts_line, line_number};
 ghost use Rattle.tokenizer.specs.Places.{first_point};
 
-use crate::event::{LineStart, Point};
+use crate::event::Point;
 
 // Whether a line feed stands at a place.
 pub fn starts_lf(s: &[u8], at: usize) -> bool
@@ -60,7 +60,10 @@ pub fn first_start(s: &[u8]) -> usize
 pub fn first_point(s: &[u8]) -> Point
     ensures { result ≡ first_point s.now }
 {
-    LineStart::first(s).point()
+    Point {
+        index: first_start(s) as u32,
+        ..Point::start()
+    }
 }
 
 // Whether a line starts at an offset: at the first line's start, or behind a line end.

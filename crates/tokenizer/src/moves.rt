@@ -52,13 +52,15 @@ impl<const MOST: usize> Text<'_, MOST> {
 }
 
 impl Sheet<'_> {
-    // The end of a run of bytes of one kind. It goes by points, and not to `run_stop`: each byte's column is counted on the way.
-    pub fn run_end(&self, p: Point, k: Kind) -> Point
-        requires { Inside self.now.bytes.now p × (kind_number k ≡ 2 → ⊥) }
-        ensures { result ≡ past p (run_of (kind_in self.now.kinds.now) (kind_number k) (rest_of self.now.bytes.now p)) }
+    // The end of a run of bytes of one kind. It goes by points, and not to `run_stop`: each byte's column is counted on the way. The kind is told by
+    // its number, of which it took any but 2 before kinds had names: a `Kind` would ask more of callers. No byte has a kind above 6, so such a run
+    // is empty.
+    pub fn run_end(&self, p: Point, k: u8) -> Point
+        requires { Inside self.now.bytes.now p × (k ≡ 2 → ⊥) }
+        ensures { result ≡ past p (run_of (kind_in self.now.kinds.now) k (rest_of self.now.bytes.now p)) }
     {
         let mut q = p;
-        while self.ahead(q) == k {
+        while self.ahead(q) as u8 == k {
             q = over(self.bytes, q);
         }
         q
@@ -69,7 +71,7 @@ impl Sheet<'_> {
         requires { Inside self.now.bytes.now p }
         ensures { result ≡ past p (indent (kind_in self.now.kinds.now) (rest_of self.now.bytes.now p)) }
     {
-        self.run_end(p, Kind::Space)
+        self.run_end(p, Kind::Space as u8)
     }
 
     // Whether the line has nothing but spaces and tabs from a point on.

@@ -1,6 +1,6 @@
 // Slots that are lent: an event is read or written, and slots of any type are cleared from a place on.
 ghost use Rattle.std.specs.Prelude.{◌≡◌, ◌<◌, ◌+◌, ◌^◌, set};
-ghost use Rattle.tokenizer.specs.Slots.{event_at, cleared, wrote, past_if, event_if};
+ghost use Rattle.tokenizer.specs.Slots.{event_at, cleared, wrote, slot_if, past_if, event_if};
 
 use crate::event::Event;
 
@@ -19,6 +19,14 @@ pub fn put(slots: &mut [Event], i: usize, e: Event)
     if i < slots.len() {
         slots[i] = e;
     }
+}
+
+// The place of a slot that is written, or one past all slots where none is: for whoever writes by places. It asks nothing, and `put_if` asks that the
+// next place is a number.
+pub fn slot_if(go: bool, i: usize) -> usize
+    ensures { result ≡ slot_if go i }
+{
+    if go { i } else { usize::MAX }
 }
 
 // An event is written, or none; the next slot. No `Option` of the event: callers have the flag, and each would wrap what is unwrapped here at once.

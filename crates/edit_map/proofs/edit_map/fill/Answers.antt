@@ -1,16 +1,15 @@
 -- `edit_map::fill` meets its contract.
 -- Assumes nothing.
 use Prim.Native.Nat.{ℕ, zero, suc, ◌+◌, ◌-◌, ◌<◌, ◌≤◌}
-use mathlib.Core.Path.{◌≡◌, refl, sym, ap, ◌∙◌}
+use mathlib.Core.Path.{◌≡◌, sym, ap, ◌∙◌}
 use mathlib.Core.List.{List, [], ◌∷◌, ◌++◌, append-nil}
-use Rattle.std.specs.Prelude.{Option, Some, None, MatchOption}
 use Rattle.tokenizer.specs.Events.{blank_event}
 use native.Mathlib.Omega.{arith}
-use lib.ListN.{length, take, drop, set}
+use lib.ListN.{length, take, set}
 use lib.Seq.{take_all}
 use Rattle.std.proofs.lemmas.List.{set-get_or}
 use Rattle.tokenizer.specs.declared.event.Event.{Event}
-use Rattle.tokenizer.specs.Slots.{event_at, slots_of, cleared}
+use Rattle.tokenizer.specs.Slots.{slots_of, cleared}
 use Rattle.tokenizer.proofs.Blanks.{slots_none, cleared_all, cleared_none}
 use Rattle.tokenizer.proofs.Filling.{take-set}
 use Rattle.edit_map.proofs.edit_map.fill.Goals as goal
