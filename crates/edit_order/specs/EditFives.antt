@@ -1,5 +1,5 @@
 -- One edit and its five numbers.
-use Rattle.std.specs.Prelude.{ℕ, List, [], ◌∷◌, get_or}
+use Rattle.std.specs.Prelude.{ℕ, ◌+◌, List, [], ◌∷◌, get_or, set}
 use Rattle.edit_order.specs.declared.edit_slots.Edit.{Edit}
 
 -- an edit of zeros
@@ -13,3 +13,7 @@ edit_of g = record { at = get_or g 0 0; removes = get_or g 1 0; from = get_or g 
 -- an edit's five numbers
 abbrev pub numbers : Edit → List ℕ
 numbers e = e.at ∷ e.removes ∷ e.from ∷ e.adds ∷ e.before ∷ []
+
+-- an edit's five numbers, stored from k on
+abbrev pub store : List ℕ → ℕ → Edit → List ℕ
+store l k e = set (set (set (set (set l k e.at) (k + 1) e.removes) (k + 2) e.from) (k + 3) e.adds) (k + 4) e.before

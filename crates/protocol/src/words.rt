@@ -171,7 +171,10 @@ fn decimal(word: &[u8]) -> Option<usize> {
     }
     let mut value: usize = 0;
     for b in word {
-        let d = digit(*b).filter(|d| *d < 10)?;
+        let d = match b {
+            b'0'..=b'9' => b - b'0',
+            _ => return None,
+        };
         value = value.checked_mul(10)?.checked_add(usize::from(d))?;
     }
     Some(value)

@@ -121,7 +121,7 @@ module _ (s t : List ℕ) (on : Bool) (ys ms : List Event) (ks : List ℕ) where
       let ws = wrote 0 (resolved_of gs) ms in
       let us = aligned_from 0 gs ks in
       let h = right_by r zs ws us refl (wrote-length 0 (raw_of gs) ys) (wrote-length 0 (resolved_of gs) ms) (aligned-length 0 gs ks)
-            (ok_read r refl (λ (x : List Found). zs ≡ wrote 0 (raw_of x) ys) refl)
-            (ok_read r refl (λ (x : List Found). ws ≡ wrote 0 (resolved_of x) ms) refl)
-            (ok_read r refl (λ (x : List Found). us ≡ aligned_from 0 x ks) refl) in
+      (ok_read r refl (λ (x : List Found). zs ≡ wrote 0 (raw_of x) ys) refl)
+      (ok_read r refl (λ (x : List Found). ws ≡ wrote 0 (resolved_of x) ms) refl)
+      (ok_read r refl (λ (x : List Found). us ≡ aligned_from 0 x ks) refl) in
       record { events = h.events; results = h.results; aligned = h.aligned }
