@@ -60,15 +60,20 @@ pub fn numbers(out: &mut impl Write, list: &[usize]) -> io::Result<()> {
     Ok(())
 }
 
+// The counts of a refusal.
+const ZEROS: &[u8] = b" 0 0 0 0";
+
 // An answer's number and counts, zeros where it is refused.
 pub fn number<const N: usize>(
     out: &mut impl Write,
     answer: Result<[usize; N], Refusal>,
 ) -> io::Result<()> {
-    let number = answer_number(&answer);
-    let counts = answer.unwrap_or([0; N]);
-    write!(out, "{number}")?;
-    for n in &counts {
+    write!(out, "{}", answer_number(&answer))?;
+    // A refusal's zeros are one piece, since each piece is written for itself.
+    if let (Err(_), Some(zeros)) = (&answer, ZEROS.get(..N.saturating_mul(2))) {
+        return out.write_all(zeros);
+    }
+    for n in &answer.unwrap_or([0; N]) {
         write!(out, " {n}")?;
     }
     Ok(())
